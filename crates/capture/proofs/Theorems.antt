@@ -1,0 +1,54 @@
+-- The promises on the calls from C, of the definitions that their contracts cite. Assumes nothing.
+use Prim.Native.Nat.{ℕ, _+_, _*_, _/_, _%_, _<_, _≤_}
+use mathlib.Core.Path.{_≡_, refl, sym, ap, subst, _∙_}
+use mathlib.Core.Bool.{cond}
+use native.Mathlib.Omega.{arith}
+use lib.Dec.{eqb}
+use borrow.Author.Tests.{eqb-true, eqb-false}
+use Rattle.refusal.specs.declared.Refusal.{Refusal}
+use Rattle.refusal.specs.Table.{Keeps}
+use Rattle.refusal.proofs.Cases.{by-test}
+use Rattle.timing.specs.declared.Correction.{Correction}
+use Rattle.timing.specs.declared.Correction.the-variants.{Clean, Repaired, Refused}
+use Rattle.timing.specs.Code.{fourthOf, correctionOf}
+use Rattle.timing.specs.Refusals.{correctionRefusals, refusalOf}
+use Rattle.timing.proofs.Laws.{Bounded, bounded, fourth-below}
+use Rattle.timing.proofs.Theorems.{correction-exact}
+use Rattle.capture.specs.Answer.{answered, correctedOf, correctAnswer}
+
+-- An answer below 65,536 is no refusal, and any other tells the refusal's number and place.
+pub answer-tells : (r : Refusal) (accepted : ℕ) → accepted < 65536 → r .place < 65536 → (r .number ≡ 0 → r .place ≡ 0)
+    → r ≡ record { number = answered r accepted / 65536; place = cond (eqb (answered r accepted / 65536) 0) 0 (answered r accepted % 65536) }
+answer-tells r accepted low near zero =
+    by-test (eqb (r .number) 0)
+    (λ t.
+    let n : r .number ≡ 0 = eqb-true _ _ t in
+    let q : accepted / 65536 ≡ 0 = omega arith in
+    let p = zero n in
+    simp (t, q) (λ i. record { number = n i; place = p i }))
+    (λ f.
+    let n = eqb-false (r .number) 0 f in
+    let a : r .number ≡ (r .number * 65536 + r .place) / 65536 = omega arith in
+    let b : r .place ≡ (r .number * 65536 + r .place) % 65536 = omega arith in
+    simp (f, sym a) (λ i. record { number = r .number; place = b i }))
+
+corrected-low : (c : Correction) → Bounded c → correctedOf c < 65536
+corrected-low (Clean fvh) b = omega (arith, fourth-below fvh)
+corrected-low (Repaired fvh bit) b = omega (arith, fourth-below fvh, b .1)
+corrected-low (Refused number) b = omega arith
+
+-- The refusal that an answer tells.
+abbrev pub toldBy : ℕ → Refusal
+toldBy answer = record { number = answer / 65536; place = cond (eqb (answer / 65536) 0) 0 (answer % 65536) }
+
+-- Correction from C refuses exactly as the table of 5, 7, 8 says, for every number that may come.
+pub capture-correct-exact : (word : ℕ) → Keeps (correctionRefusals word) (toldBy (correctAnswer word))
+unfolding correctAnswer
+capture-correct-exact word =
+    subst (Keeps (correctionRefusals word))
+    (answer-tells (refusalOf (correctionOf word)) (correctedOf (correctionOf word)) (corrected-low (correctionOf word) (bounded word)) (omega arith) (λ e. refl))
+    (correction-exact word)
+
+-- Two results allowed for one number are the same.
+pub capture-correct-one-result : (word r s : ℕ) → r ≡ correctAnswer word → s ≡ correctAnswer word → r ≡ s
+capture-correct-one-result word r s e f = e ∙ sym f

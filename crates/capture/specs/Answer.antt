@@ -1,0 +1,23 @@
+-- Document 01, "The confirming program and the capture process": what the calls from C answer.
+use Prim.Native.Nat.{ℕ, _+_, _*_}
+use mathlib.Core.Bool.{cond}
+use lib.Dec.{eqb}
+use Rattle.refusal.specs.declared.Refusal.{Refusal}
+use Rattle.timing.specs.declared.Correction.{Correction}
+use Rattle.timing.specs.declared.Correction.the-variants.{Clean, Repaired, Refused}
+use Rattle.timing.specs.Code.{fourthOf, correctionOf}
+use Rattle.timing.specs.Refusals.{refusalOf}
+
+-- "Each answers one 32-bit number: a refusal's number times 65,536 plus its place."
+abbrev pub answered : Refusal → ℕ → ℕ
+answered r accepted = cond (eqb (r .number) 0) accepted (r .number * 65536 + r .place)
+
+-- "otherwise it answers the corrected word with both low bits 0, plus 4,096 times the repaired bit's number, or plus nothing if clean"
+abbrev pub correctedOf : Correction → ℕ
+correctedOf (Clean fvh) = fourthOf fvh
+correctedOf (Repaired fvh bit) = fourthOf fvh + 4096 * bit
+correctedOf (Refused number) = 0
+
+-- the answer to any number: over 1023 is 5, however large it is
+unfoldable pub correctAnswer : ℕ → ℕ
+correctAnswer word = answered (refusalOf (correctionOf word)) (correctedOf (correctionOf word))

@@ -1,0 +1,27 @@
+// What the capture process calls from C: include/fiskrogn.h tells it to a C programmer.
+ghost use mathlib.Core.Path.{_≡_};
+ghost use Rattle.capture.specs.Answer.{correctAnswer};
+use timing::Correction;
+
+// The correction of a fourth word as one number: the corrected word and 4,096 times the repaired bit, or 65,536 times the refusal's
+// number. Any 32-bit number may come: nothing is cut before it is judged.
+#[no_mangle]
+pub extern "C" fn fiskrogn_correct(word: u32) -> u32
+    ensures { λ r. ⌜ r ≡ correctAnswer word ⌝ }
+{
+    if 1023 < word {
+        return 5 * 65536;
+    }
+    let correction = timing::correct(word as u16);
+    match correction {
+        Correction::Clean { fvh } => wide(timing::fourth(fvh)),
+        Correction::Repaired { fvh, bit } => wide(timing::fourth(fvh)) + 4096 * bit,
+        Correction::Refused { number } => 65536 * number,
+    }
+}
+
+fn wide(word: u16) -> u32
+    ensures { λ r. ⌜ r ≡ word ⌝ }
+{
+    word as u32
+}

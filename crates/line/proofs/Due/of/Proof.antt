@@ -1,0 +1,19 @@
+-- `line::Due::of` meets its contract: F and V are the system's. Assumes nothing.
+use borrow.Author.Needs.{needs}
+use mathlib.Core.Path.{refl}
+use Rattle.line.specs.Due.{dueOf}
+use Rattle.line.proofs.Due.of.Statement.{statement}
+use Rattle.line.proofs.Due.of.Tie as tie
+
+f-requires : tie.Need-f-requires
+f-requires c κs = search needs
+
+v-requires : tie.Need-v-requires
+v-requires c κs = search needs
+
+returns : tie.Need-returns
+unfolding dueOf
+returns c = rw (c .before .f .ensures, c .v .ensures)
+
+pub of-spec : {M : Type 1} → statement M
+of-spec = tie.close (tie.spec f-requires v-requires returns)

@@ -1,0 +1,7 @@
+pub mod Tabs
+pub mod Dues
+pub mod Faults
+pub mod Theorems
+pub mod Places
+pub mod Damaged
+pub mod Images

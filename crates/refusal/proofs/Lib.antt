@@ -1,0 +1,3 @@
+pub mod Firsts
+pub mod Tables
+pub mod Cases

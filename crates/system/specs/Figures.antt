@@ -1,0 +1,55 @@
+-- Document 01, "Numbers and layout": the figures of each system, and F and V of a line.
+use Prim.Native.Nat.{ℕ, _+_}
+use mathlib.Core.Bool.{Bool, cond, _&&_, _||_}
+use lib.Dec.{leb, eqb}
+use Rattle.system.specs.declared.System.{System}
+use Rattle.system.specs.declared.System.the-variants.{Lines525, Lines625}
+
+-- the number by which a system is named
+abbrev pub systemNumber : System → ℕ
+systemNumber Lines525 = 525
+systemNumber Lines625 = 625
+
+-- "words in a line"
+abbrev pub lineLength : System → ℕ
+lineLength Lines525 = 1716
+lineLength Lines625 = 1728
+
+-- where SAV starts: "SAV, offsets 272-275 / 284-287"
+abbrev pub savOffset : System → ℕ
+savOffset Lines525 = 272
+savOffset Lines625 = 284
+
+-- the active part follows the four words of SAV: "276-1715 / 288-1727"
+abbrev pub activeOffset : System → ℕ
+activeOffset s = savOffset s + 4
+
+-- "line number outside 1 to 525, or 1 to 625"
+abbrev pub lineCount : System → ℕ
+lineCount Lines525 = 525
+lineCount Lines625 = 625
+
+abbrev pub between : ℕ → ℕ → ℕ → Bool
+between first last n = leb first n && leb n last
+
+-- "V = 1: 1-19, 264-282 / 624-625, 1-22, 311-335. All else is 0."
+unfoldable pub vOf : System → ℕ → Bool
+vOf Lines525 n = between 1 19 n || between 264 282 n
+vOf Lines625 n = between 624 625 n || (between 1 22 n || between 311 335 n)
+
+-- "F = 1: 266-525, 1-3 / 313-625. All else is 0."
+unfoldable pub fOf : System → ℕ → Bool
+fOf Lines525 n = between 266 525 n || between 1 3 n
+fOf Lines625 n = between 313 625 n
+
+-- "After the last line comes line 1."
+unfoldable pub nextLine : System → ℕ → ℕ
+nextLine s n = cond (eqb n (lineCount s)) 1 (n + 1)
+
+-- "system is neither 525 nor 625"
+unfoldable pub isSystem : ℕ → Bool
+isSystem number = eqb number (systemNumber Lines525) || eqb number (systemNumber Lines625)
+
+-- the system that such a number names
+unfoldable pub systemOf : ℕ → System
+systemOf number = cond (eqb number (systemNumber Lines525)) Lines525 Lines625

@@ -1,0 +1,4 @@
+pub mod Every
+pub mod Same
+pub mod Laws
+pub mod Theorems

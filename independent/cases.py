@@ -1,0 +1,558 @@
+"""Cases for the probe, made from fixed seeds; each family gives kinds and arguments."""
+
+from itertools import product
+
+from independent import judge
+from independent.material import (
+    CODE_BITS,
+    EDGE_WORDS,
+    HIGHEST,
+    SYSTEMS,
+    Source,
+    changed,
+    edge_offsets,
+    fourth_offsets,
+    inverted,
+    line_after,
+    line_numbers,
+    line_of_each_kind,
+    plain_and_blank_line,
+    samples_of,
+    turning_lines,
+)
+from independent.protocol import (
+    ACTIVE,
+    CAPTURE_CORRECT,
+    CAPTURE_JUDGE,
+    CODE,
+    CORRECT,
+    DECODE,
+    FRESH,
+    READ,
+    WRITE,
+    Case,
+    pack_slice,
+)
+
+WRONG_SYSTEMS = (
+    0, 1, 524, 526, 624, 626, 65_536, 65_536 + 525, 65_536 + 625, 2**31 + 625, HIGHEST,
+)  # fmt: skip
+EDGE_LINES = (
+    0, 1, 2, 524, 525, 526, 624, 625, 626, 65_535, 65_536, 65_537, 2**31 + 1, HIGHEST,
+)  # fmt: skip
+EDGE_COUNTS = (
+    (0, 0),
+    (0, 1),
+    (1, 2),
+    (1, 3),
+    (5, HIGHEST),
+    (9_999_999, 0),
+    (9_999_999, 19_999_998),
+    (9_999_999, 19_999_999),
+    (10_000_000, 0),
+    (10_000_000, 20_000_001),
+    (2**31, 0),
+    (2**31 + 1, 2),
+    (HIGHEST, 0),
+    (HIGHEST, HIGHEST),
+)
+
+LISTED_SAMPLES = (3, 4, 1019, 1020)
+LISTED_LINES = (0, 1, 525, 526, 625, 626)
+LISTED_LENGTHS = (1715, 1716, 1728, 1729)
+LISTED_COUNTS = (9_999_999, 10_000_000)
+LISTED_SERIAL = (65_536, 65_537)
+
+ALL_PLACES = range(judge.ACTIVE_WORDS)
+EDGE_PLACES = (*ALL_PLACES[:8], *ALL_PLACES[718:722], *ALL_PLACES[-4:])
+
+GOOD_STATES = ((0, 0), (0, 1), (1, 0), (256, 1), (511, 0), (511, 1))
+BAD_STATES = (
+    (512, 0),
+    (512, 1),
+    (0, 2),
+    (511, 2),
+    (512, 2),
+    (1023, 0),
+    (65_536, 0),
+    (65_536 + 3, 0),
+    (0, 256),
+    (0, 65_536),
+    (3, 65_537),
+    (HIGHEST, 0),
+    (0, HIGHEST),
+    (HIGHEST, HIGHEST),
+)
+
+
+def bytewise(walk, data):
+    return CAPTURE_JUDGE, (*walk, data)
+
+
+def readings(source, walk, words):
+    """One line through reader, active part and byte judge."""
+    yield READ, (walk, words, *source.junk_buffers())
+    yield ACTIVE, (walk, words)
+    yield bytewise(walk, pack_slice(words))
+
+
+def chosen_lines():
+    """A line of each system, F and V."""
+    for system in SYSTEMS:
+        for line in line_of_each_kind(system):
+            yield system, line
+
+
+def line_for(source, system, line):
+    """A clean line for a right system and line number, or else the nearest such."""
+    system = system % 65_536 if system % 65_536 in SYSTEMS else max(SYSTEMS)
+    line %= 65_536
+    return source.written(system, line if line in line_numbers(system) else 1)
+
+
+def stretched(words, length):
+    """The line cut, or lengthened by more fill."""
+    return (words + judge.FILL)[:length]
+
+
+def every_word(source):
+    for word in range(65_536):
+        yield CORRECT, (word,)
+        yield CAPTURE_CORRECT, (word,)
+
+
+def wide_words(source):
+    for word in (65_536, 65_536 + 628, 2**31 + 628, 2**31, HIGHEST, HIGHEST - 65_535 + 628):
+        yield CAPTURE_CORRECT, (word,)
+    for _ in range(2_000):
+        yield CAPTURE_CORRECT, (source.random.randrange(65_536, 2**32),)
+
+
+def fresh_walks(source):
+    for system, line in product((*SYSTEMS, *WRONG_SYSTEMS), EDGE_LINES):
+        yield FRESH, (system, line)
+    for system, line in product(SYSTEMS, range(0, 640)):
+        yield FRESH, (system, line)
+
+
+def listed_samples(source):
+    for (system, line), sample in product(chosen_lines(), LISTED_SAMPLES):
+        for place in (0, 1, 2, 701, ALL_PLACES[-1]):
+            offset = judge.active_start(system) + place
+            words = changed(source.written(system, line), {offset: sample})
+            yield from readings(source, source.walk(system, line), words)
+            part = changed(source.picture(), {place: sample})
+            yield WRITE, (system, line, *samples_of(part), source.junk(len(words)))
+
+
+def listed_lines(source):
+    for system, line in product(SYSTEMS, LISTED_LINES):
+        yield FRESH, (system, line)
+        words = line_for(source, system, line)
+        yield from readings(source, source.walk(system, line), words)
+        part = source.picture()
+        yield WRITE, (system, line, *samples_of(part), source.junk(len(words)))
+
+
+def listed_lengths(source):
+    for (system, line), length in product(chosen_lines(), LISTED_LENGTHS):
+        words = stretched(source.written(system, line), length)
+        yield from readings(source, source.walk(system, line), words)
+        part = source.picture()
+        yield WRITE, (system, line, *samples_of(part), source.junk(length))
+
+
+def listed_counts(source):
+    for (system, line), lines_read in product(chosen_lines(), LISTED_COUNTS):
+        for repairs in (0, 2 * lines_read, 2 * lines_read + 1):
+            words = source.written(system, line)
+            yield from readings(source, (system, line, lines_read, repairs), words)
+
+
+def listed_serial(source):
+    for kind, length in product((CODE, DECODE), LISTED_SERIAL):
+        state = source.random.randrange(512), source.random.randrange(2)
+        words = source.serial_words(length)
+        yield kind, (*state, words, [65_535] * length)
+
+
+def drawn_errors(source):
+    """The errors a builder is drawn to, in their order; then a picture out of its place."""
+    for system, line in chosen_lines():
+        words = source.written(system, line)
+        eav, sav = fourth_offsets(system)
+        walk = source.walk(system, line)
+        both = {eav: words[eav] ^ 4, sav: words[sav] ^ 256}
+        start, last = judge.active_start(system), len(words) - 1
+        for changes in (
+            {eav: 632},
+            {sav: 632},
+            {eav: 0},
+            {sav: 1023},
+            {eav: 631},
+            {eav: words[eav] | 3, sav: words[sav] | 3},
+            {last: 1023},
+            {last: 1024},
+            {eav: both[eav]},
+            {sav: both[sav]},
+            both,
+            {**both, last: 3},
+            dict(enumerate(source.picture(), start)),
+            {offset: judge.FILL[offset] for offset in range(start, last + 1)},
+        ):
+            yield from readings(source, walk, changed(words, changes))
+
+
+def every_line(source):
+    for system in SYSTEMS:
+        for line in line_numbers(system):
+            samples = samples_of(source.picture())
+            before = source.junk(judge.SYSTEMS[system].words)
+            yield WRITE, (system, line, *samples, before)
+            words = judge.write(system, line, *samples, before)[2]
+            yield from readings(source, source.walk(system, line), words)
+
+
+def every_offset(source):
+    for system in SYSTEMS:
+        for line in plain_and_blank_line(system):
+            words = source.written(system, line)
+            walk = source.walk(system, line)
+            for offset, word in enumerate(words):
+                faults = source.over(word), source.wrong(system, line, offset, word)
+                over, wrong = (changed(words, {offset: fault}) for fault in faults)
+                yield bytewise(walk, pack_slice(over))
+                yield bytewise(walk, pack_slice(wrong))
+                yield READ, (walk, wrong if offset % 2 else over, *source.junk_buffers())
+                yield ACTIVE, (walk, over if offset % 2 else wrong)
+
+
+def edge_words(source):
+    for system, line in chosen_lines():
+        words = source.written(system, line)
+        walk = source.walk(system, line)
+        for offset, word in product(edge_offsets(system), EDGE_WORDS):
+            yield from readings(source, walk, changed(words, {offset: word}))
+
+
+def several_faults(source):
+    for _ in range(1_500):
+        system = source.random.choice(SYSTEMS)
+        line = source.random.choice(line_numbers(system))
+        words = source.written(system, line)
+        spoilt = changed(words, faults_in(source, system, line, words))
+        yield from readings(source, source.walk(system, line), spoilt)
+
+
+def faults_in(source, system, line, words):
+    """Two to six words to be changed, at edges and elsewhere."""
+    choice = source.random.choice
+    faults = {}
+    for _ in range(choice(range(2, 7))):
+        offset = choice([choice(edge_offsets(system)), choice(range(len(words)))])
+        word = words[offset]
+        faults[offset] = choice(
+            [
+                source.over(word),
+                source.wrong(system, line, offset, word),
+                choice(EDGE_WORDS),
+                choice(range(65_536)),
+            ]
+        )
+    return faults
+
+
+def every_pattern(source):
+    """Bits 9 to 2 of each fourth word in all their patterns."""
+    for system, line in chosen_lines():
+        words = source.written(system, line)
+        walk = source.walk(system, line)
+        for offset, pattern in product(fourth_offsets(system), range(256)):
+            word = pattern << 2 | source.random.randrange(4)
+            yield bytewise(walk, pack_slice(changed(words, {offset: word})))
+
+
+def inverted_bits(source):
+    """No or one bit inverted in both codes; two and more in one of them."""
+    one_or_none = (0, *inverted(1))
+    for system, line in chosen_lines():
+        words = source.written(system, line)
+        walk = source.walk(system, line)
+        eav, sav = fourth_offsets(system)
+        for first, second in product(one_or_none, one_or_none):
+            changes = {eav: words[eav] ^ first, sav: words[sav] ^ second}
+            yield from readings(source, walk, changed(words, changes))
+        more = [mask for count in (2, 3, 4, 7) for mask in inverted(count)]
+        for offset, mask in product((eav, sav), more):
+            changes = {offset: words[offset] ^ mask}
+            yield from readings(source, walk, changed(words, changes))
+
+
+def low_bits(source):
+    for system, line in chosen_lines():
+        words = source.written(system, line)
+        eav, sav = fourth_offsets(system)
+        for bit in (0, *(1 << n for n in CODE_BITS)):
+            for changes in ({}, {eav: words[eav] ^ bit}, {sav: words[sav] ^ bit}):
+                low = source.low_bits(system, changed(words, changes))
+                yield from readings(source, source.walk(system, line), low)
+
+
+def foreign_lines(source):
+    """A line offered where a neighbour, or one of the other system, is awaited."""
+    for system in SYSTEMS:
+        for turn, before, steps in product(turning_lines(system), (0, 1), (-1, 0, 1)):
+            awaited = line_after(system, turn, -before)
+            words = source.written(system, line_after(system, awaited, steps))
+            yield from readings(source, source.walk(system, awaited), words)
+    for system, other in (SYSTEMS, reversed(SYSTEMS)):
+        for line in range(1, 525, 40):
+            words = source.written(other, line)
+            walk = source.walk(system, line)
+            yield from readings(source, walk, words)
+            length = judge.SYSTEMS[system].words
+            yield from readings(source, walk, stretched(words, length))
+
+
+def shifted_lines(source):
+    """A line turned by some words, and one whose bytes are swapped."""
+    for system, line in chosen_lines():
+        words = source.written(system, line)
+        walk = source.walk(system, line)
+        for turn in (1, 2, 4, judge.SYSTEMS[system].sav, -1):
+            yield from readings(source, walk, words[turn:] + words[:turn])
+        swapped = [word >> 8 | (word & 255) << 8 for word in words]
+        yield from readings(source, walk, swapped)
+
+
+def word_lengths(system):
+    """The right length first."""
+    due = judge.SYSTEMS[system].words
+    other = next(f.words for n, f in judge.SYSTEMS.items() if n != system)
+    return due, 0, due - 1, due + 1, other
+
+
+def slice_lengths(system):
+    """Lengths of words, Y, CB and CR, right and wrong, in all ways."""
+    y, c = judge.Y_SAMPLES, judge.C_SAMPLES
+    y_lengths = (y, 0, y - 1, y + 1)
+    c_lengths = (c, 0, c - 1, c + 1)
+    return product(word_lengths(system), y_lengths, c_lengths, c_lengths)
+
+
+def wrong_slices(source):
+    """Clean lines in slices of all lengths, to be read and to be written."""
+    for system in SYSTEMS:
+        for line in plain_and_blank_line(system):
+            clean = source.written(system, line)
+            for length, *sizes in slice_lengths(system):
+                buffers = [source.junk(size) for size in sizes]
+                words = stretched(clean, length)
+                yield READ, (source.walk(system, line), words, *buffers)
+                yield WRITE, (system, line, *buffers, source.junk(length))
+
+
+def wrong_lines(source):
+    """Lines of wrong length, clean and spoilt, without regard to sample buffers."""
+    for system, line in chosen_lines():
+        clean = source.written(system, line)
+        parts = judge.CODE_WORDS, judge.active_start(system), judge.ACTIVE_WORDS
+        for length in (*word_lengths(system), 1, *parts, 2_000):
+            for words in (clean, changed(clean, {0: 1024, 3: 0})):
+                walk = source.walk(system, line)
+                yield from readings(source, walk, stretched(words, length))
+
+
+def wrong_bytes(source):
+    """Byte counts about those of both systems."""
+    for system, line in chosen_lines():
+        data = pack_slice(source.written(system, line)) + pack_slice(source.junk(400))
+        for figures in judge.SYSTEMS.values():
+            for extra in (-2, -1, 0, 1, 2):
+                size = 2 * figures.words + extra
+                yield bytewise(source.walk(system, line), data[:size])
+        for size in (0, 1, 2, 3, 4, judge.SYSTEMS[system].words, 3_999, 4_000):
+            yield bytewise(source.walk(system, line), data[:size])
+
+
+def bad_walks(source):
+    systems = (*SYSTEMS, *WRONG_SYSTEMS)
+    lines = (*LISTED_LINES, 65_537, HIGHEST)
+    for system, line, counts in product(systems, lines, EDGE_COUNTS):
+        words = line_for(source, system, line)
+        yield from readings(source, (system, line, *counts), words)
+
+
+def mixed_refusals(source):
+    """Any of system, line, counts, lengths and words wrong together."""
+    choice = source.random.choice
+    for _ in range(1_500):
+        system = choice((*SYSTEMS, *SYSTEMS, choice(WRONG_SYSTEMS)))
+        line = choice((1, 23, 283, 336, choice(EDGE_LINES)))
+        counts = choice((source.counts(), choice(EDGE_COUNTS)))
+        words = line_for(source, system, line)
+        if choice((True, False)):
+            words = changed(words, {choice(range(len(words))): choice(EDGE_WORDS)})
+        words = stretched(words, len(words) + choice((0, 0, 0, 1, -1)))
+        y, cb, cr = source.junk_buffers()
+        buffers = y[choice((0, 0, 1)) :], cb[choice((0, 0, 1)) :], cr[choice((0, 0, 1)) :]
+        walk = (system, line, *counts)
+        yield READ, (walk, words, *buffers)
+        yield ACTIVE, (walk, words)
+        yield bytewise(walk, pack_slice(words))
+        yield WRITE, (system, line, *buffers, source.junk(len(words)))
+
+
+def written_samples(source):
+    """One sample, at or beyond a limit, at an edge of the active part."""
+    values = (0, 3, 4, 1019, 1020, 1023, 1024, 65_535)
+    for (system, line), place, value in product(chosen_lines(), EDGE_PLACES, values):
+        part = changed(source.picture(), {place: value})
+        before = source.junk(judge.SYSTEMS[system].words)
+        yield WRITE, (system, line, *samples_of(part), before)
+
+
+def written_faults(source):
+    """Several samples beyond a limit."""
+    choice = source.random.choice
+    for _ in range(600):
+        system = choice(SYSTEMS)
+        line = choice(line_numbers(system))
+        places = choice(EDGE_PLACES), *source.random.choices(ALL_PLACES, k=3)
+        part = changed(source.picture(), {place: choice(EDGE_WORDS) for place in places})
+        before = source.junk(judge.SYSTEMS[system].words)
+        yield WRITE, (system, line, *samples_of(part), before)
+
+
+def written_junk(source):
+    """Sample buffers of any words: refused with V = 0, not looked at with V = 1."""
+    for system, line in chosen_lines():
+        before = source.junk(judge.SYSTEMS[system].words)
+        for _ in range(10):
+            yield WRITE, (system, line, *source.junk_buffers(), before)
+
+
+def written_numbers(source):
+    for system, line in product((*SYSTEMS, *WRONG_SYSTEMS), EDGE_LINES):
+        length = len(line_for(source, system, line))
+        for part in (source.picture(), source.junk(judge.ACTIVE_WORDS)):
+            yield WRITE, (system, line, *samples_of(part), source.junk(length))
+
+
+def serial_states(source):
+    runs = ([], [0], [1], [1023], [1024], [1, 0], source.serial_words(20))
+    for kind, state, words in product((CODE, DECODE), GOOD_STATES + BAD_STATES, runs):
+        for size in {len(words), 0, len(words) + 1}:
+            yield kind, (*state, words, source.junk(size))
+
+
+def serial_single_words(source):
+    """Every state with some word, and every word from some state."""
+    for kind, number in product((CODE, DECODE), range(1024)):
+        random = source.random.randrange(1024)
+        yield kind, (number >> 1, number & 1, [random], source.junk(1))
+        yield kind, (random >> 1, random & 1, [number], source.junk(1))
+
+
+def serial_runs(source):
+    """A run, and its coded words decoded from the same state."""
+    for _ in range(150):
+        state = source.random.randrange(512), source.random.randrange(2)
+        length = source.random.randrange(2, 300)
+        plain = source.serial_words(length)
+        yield DECODE, (*state, plain, source.junk(length))
+        yield CODE, (*state, plain, source.junk(length))
+        coded = judge.code(*state, plain, plain)[4]
+        yield DECODE, (*state, coded, source.junk(length))
+
+
+def serial_bad_words(source):
+    """One or two words over 1023 at first, middle and last index."""
+    for kind, length in product((CODE, DECODE), (1, 2, 3, 40)):
+        words = source.serial_words(length)
+        for first, second in product((0, length // 2, length - 1), repeat=2):
+            for high in (1024, 1024 + 628, 32_768, 65_535):
+                bad = changed(words, {second: 65_535, first: high})
+                yield kind, (*source.random.choice(GOOD_STATES), bad, source.junk(length))
+
+
+def serial_lengths(source):
+    """Longest runs: equal, unequal and too long; bad words at their ends."""
+    longest = judge.SERIAL_LIMIT
+    words = source.serial_words(longest + 4)
+    sizes = (
+        (longest, longest - 1),
+        (longest, longest + 1),
+        (longest, 0),
+        (longest + 1, longest),
+        (longest + 1, longest + 1),
+        (longest + 1, 0),
+        (longest + 4, longest + 4),
+        (longest - 1, longest),
+        (0, longest + 1),
+        (10, 9),
+        (10, 11),
+        (0, 1),
+    )
+    for kind, (length, size) in product((CODE, DECODE), sizes):
+        for state in ((0, 0), (512, 0)):
+            yield kind, (*state, words[:length], [7] * size)
+        if length:
+            bad = changed(words[:length], {length - 1: 1024})
+            yield kind, (0, 0, bad, [7] * size)
+    for kind, index in product((CODE, DECODE), (0, longest // 2, longest - 1)):
+        bad = changed(words[:longest], {index: 1024})
+        yield kind, (511, 1, bad, [7] * longest)
+
+
+def serial_round_trip(source):
+    """The longest run there and back."""
+    plain = source.serial_words(judge.SERIAL_LIMIT)
+    coded = judge.code(341, 1, plain, plain)[4]
+    yield DECODE, (341, 1, coded, [7] * len(plain))
+
+
+FAMILIES = (
+    every_word,
+    wide_words,
+    fresh_walks,
+    listed_samples,
+    listed_lines,
+    listed_lengths,
+    listed_counts,
+    listed_serial,
+    drawn_errors,
+    every_line,
+    every_offset,
+    edge_words,
+    several_faults,
+    every_pattern,
+    inverted_bits,
+    low_bits,
+    foreign_lines,
+    shifted_lines,
+    wrong_slices,
+    wrong_lines,
+    wrong_bytes,
+    bad_walks,
+    mixed_refusals,
+    written_samples,
+    written_faults,
+    written_junk,
+    written_numbers,
+    serial_states,
+    serial_single_words,
+    serial_runs,
+    serial_bad_words,
+    serial_lengths,
+    serial_round_trip,
+)
+
+
+def cases(seed, kinds, choice):
+    """The chosen cases of each family, as far as their kind is asked for."""
+    for family in FAMILIES:
+        name = family.__name__
+        for index, (kind, arguments) in enumerate(family(Source(seed, name))):
+            if kind in kinds and choice.takes(index):
+                yield Case(kind, name, index, arguments)

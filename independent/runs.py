@@ -1,0 +1,186 @@
+"""Inputs of whole confirming runs, made from fixed seeds, and the way each is handed over."""
+
+from itertools import product
+from typing import NamedTuple, Union
+
+from independent import judge
+from independent.material import (
+    SYSTEMS,
+    Source,
+    changed,
+    edge_offsets,
+    fourth_offsets,
+    inverted,
+    line_after,
+)
+from independent.protocol import pack_slice
+
+# Ways to hand over an input; a number is the size of pieces handed over one by one.
+FILE = "file"
+PIPE = "pipe"
+
+# Three lines from here hold lines with V = 1 and with V = 0; those of 525 wrap.
+STARTS = {525: 524, 625: 22}
+
+
+class Run(NamedTuple):
+    """One input; the index counts the runs of its family."""
+
+    family: str
+    index: int
+    data: bytes
+    delivery: Union[str, int]
+
+
+def header(system, start):
+    return pack_slice([system, start])
+
+
+def clean_lines(source, system, start, count):
+    lines = [line_after(system, start, steps) for steps in range(count)]
+    return [source.written(system, line) for line in lines]
+
+
+def recording(system, start, lines):
+    return header(system, start) + b"".join(map(pack_slice, lines))
+
+
+def three_lines(source, system):
+    start = STARTS[system]
+    return recording(system, start, clean_lines(source, system, start, 3))
+
+
+def headers(source):
+    """Headers cut, wrong and right, alone and with something after them."""
+    pairs = (
+        (0, 0), (0, 1), (1, 1), (524, 1), (526, 1), (624, 1), (626, 1), (65_535, 65_535),
+        (525, 0), (525, 526), (525, 625), (525, 65_535), (625, 0), (625, 626), (625, 65_535),
+        (525, 1), (525, 525), (625, 1), (625, 625), (0x7102, 0x1600),
+    )  # fmt: skip
+    for pair in pairs:
+        line = clean_lines(source, 625, 22, 1)
+        whole = recording(*pair, line)
+        for size in (0, 1, 2, 3, 4, 5, 6, 1_000, len(whole)):
+            yield whole[:size], FILE if size % 2 else PIPE
+
+
+def cut_sizes(system):
+    """Every size of a recording of three lines near an edge of a word, code, part or line."""
+    size = 2 * judge.SYSTEMS[system].words
+    edges = [2 * offset for offset in edge_offsets(system)] + [size]
+    starts = [len(header(system, 1)) + n * size for n in range(3)]
+    return sorted({s + e + n for s, e, n in product(starts, edges, range(-3, 4))})
+
+
+def cuts(source):
+    for system in SYSTEMS:
+        whole = three_lines(source, system)
+        elsewhere = source.random.sample(range(len(whole)), 40)
+        for size in (*range(4), *cut_sizes(system), *elsewhere):
+            yield whole[:size], PIPE
+
+
+def frames(source):
+    """More than a whole frame, with wrap: clean, cut, and spoilt in its last line."""
+    for system in SYSTEMS:
+        count = judge.SYSTEMS[system].lines + 40
+        start = judge.SYSTEMS[system].lines - 20
+        lines = clean_lines(source, system, start, count)
+        whole = recording(system, start, lines)
+        for delivery in (FILE, PIPE, 65_537):
+            yield whole, delivery
+        yield whole[:-1], FILE
+        lines[-1] = changed(lines[-1], {len(lines[-1]) - 1: 1024})
+        yield recording(system, start, lines), PIPE
+        yield recording(system, start, lines) + bytes(1_000_000), PIPE
+
+
+def repaired_codes(source):
+    """Each bit repaired in each code; any bit, or none, in all codes, with any low bits."""
+    masks = [0, *inverted(1)]
+    for system in SYSTEMS:
+        start = STARTS[system]
+        lines = clean_lines(source, system, start, 5)
+        for n, offset, mask in product((0, 4), fourth_offsets(system), inverted(1)):
+            repaired = {offset: lines[n][offset] ^ mask}
+            yield recording(system, start, replaced(lines, n, repaired)), PIPE
+        for _ in range(20):
+            run = [source.with_inversions(system, words, masks) for words in lines]
+            low = [source.low_bits(system, words) for words in run]
+            yield recording(system, start, low), FILE
+
+
+def replaced(lines, n, changes):
+    """The lines with words of the n-th changed."""
+    return [*lines[:n], changed(lines[n], changes), *lines[n + 1 :]]
+
+
+def refused_words(source):
+    """One word over 1023, or otherwise wrong, in the first, second or third line."""
+    for system in SYSTEMS:
+        start = STARTS[system]
+        lines = clean_lines(source, system, start, 3)
+        for n, offset in product(range(3), edge_offsets(system)):
+            word = lines[n][offset]
+            line = line_after(system, start, n)
+            for fault in (source.over(word), source.wrong(system, line, offset, word)):
+                yield recording(system, start, replaced(lines, n, {offset: fault})), PIPE
+
+
+def refused_codes(source):
+    """Fourth words refused with 7, 8 and 9; the same with bytes wanting at the end."""
+    for system in SYSTEMS:
+        start = STARTS[system]
+        lines = clean_lines(source, system, start, 3)
+        for n, offset in product(range(3), fourth_offsets(system)):
+            word = lines[n][offset]
+            others = [w for w in judge.FOURTH_WORDS if w != word]
+            for fault in (word ^ judge.BIT_9, word ^ 12, word ^ 448, *others):
+                whole = recording(system, start, replaced(lines, n, {offset: fault}))
+                yield whole, PIPE
+                yield whole[:-1], PIPE
+
+
+def foreign_lines(source):
+    """A line left out, one repeated, and lines of the other system."""
+    for system, other in (SYSTEMS, reversed(SYSTEMS)):
+        start = STARTS[system]
+        first, second, third = clean_lines(source, system, start, 3)
+        for lines in ([first, third], [first, first], [second], [first, second, second]):
+            yield recording(system, start, lines), PIPE
+        yield recording(system, start, clean_lines(source, other, start, 3)), PIPE
+
+
+def pieces(source):
+    """Small inputs byte by byte, larger ones in odd pieces."""
+    for system in SYSTEMS:
+        whole = three_lines(source, system)
+        size = 2 * judge.SYSTEMS[system].words
+        for end in (0, 1, 2, 3, 4, 5, 6, 7, 100, 4 + size - 1, 4 + size, 4 + size + 3):
+            yield whole[:end], 1
+        yield header(system, 0) + bytes(20), 1
+        yield whole[:100] + bytes(size), 1
+        for piece in (3, 7, 1_001, size - 1, size, size + 1, 4_095, 4_096, 4_097):
+            yield whole, piece
+            yield whole[:-1], piece
+
+
+FAMILIES = (
+    headers,
+    cuts,
+    frames,
+    repaired_codes,
+    refused_words,
+    refused_codes,
+    foreign_lines,
+    pieces,
+)
+
+
+def runs(seed, choice):
+    """The chosen runs of each family."""
+    for family in FAMILIES:
+        name = f"confirm {family.__name__}"
+        for index, (data, delivery) in enumerate(family(Source(seed, name))):
+            if choice.takes(index):
+                yield Run(name, index, data, delivery)
