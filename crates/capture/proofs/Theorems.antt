@@ -2,9 +2,10 @@
 use Prim.Native.Nat.{ℕ, _+_, _*_, _/_, _%_, _<_, _≤_}
 use mathlib.Core.Path.{_≡_, refl, sym, ap, subst, _∙_}
 use mathlib.Core.Bool.{cond}
+use mathlib.Core.List.{List}
 use native.Mathlib.Omega.{arith}
 use lib.Dec.{eqb}
-use borrow.Author.Tests.{eqb-true, eqb-false}
+use borrow.Author.Tests.{eq-eqb, eqb-true, eqb-false}
 use Rattle.refusal.specs.declared.Refusal.{Refusal}
 use Rattle.refusal.specs.Table.{Keeps}
 use Rattle.refusal.proofs.Cases.{by-test}
@@ -14,7 +15,13 @@ use Rattle.timing.specs.Code.{fourthOf, correctionOf}
 use Rattle.timing.specs.Refusals.{correctionRefusals, refusalOf}
 use Rattle.timing.proofs.Laws.{Bounded, bounded, fourth-below}
 use Rattle.timing.proofs.Theorems.{correction-exact}
-use Rattle.capture.specs.Answer.{answered, correctedOf, correctAnswer}
+use Rattle.timing.specs.Report.{repairsOf}
+use Rattle.system.specs.declared.Walk.{Walk}
+use Rattle.lent.specs.Bytes.{judgedBytes}
+use Rattle.lent.specs.Refusals.{bytesRefusals}
+use Rattle.lent.proofs.Theorems.{bytes-exact, bytes-answer}
+use Rattle.capture.specs.Answer.{answered, correctedOf, correctAnswer, judgeAnswer}
+use Rattle.capture.proofs.Bounds.{Small, small-bytes, repairs-low}
 
 -- An answer below 65,536 is no refusal, and any other tells the refusal's number and place.
 pub answer-tells : (r : Refusal) (accepted : ℕ) → accepted < 65536 → r .place < 65536 → (r .number ≡ 0 → r .place ≡ 0)
@@ -52,3 +59,21 @@ capture-correct-exact word =
 -- Two results allowed for one number are the same.
 pub capture-correct-one-result : (word r s : ℕ) → r ≡ correctAnswer word → s ≡ correctAnswer word → r ≡ s
 capture-correct-one-result word r s e f = e ∙ sym f
+
+-- The byte judge refuses exactly as the reader's table says, for every number that may come.
+pub capture-judge-exact : (w : Walk) (bytes : List ℕ) → Keeps (bytesRefusals w bytes) (toldBy (judgeAnswer w bytes))
+unfolding judgeAnswer
+capture-judge-exact w bytes =
+    let told : Refusal = record { number = judgedBytes w bytes .number; place = judgedBytes w bytes .place } in
+    let small = subst Small (sym (bytes-answer w bytes)) (small-bytes w bytes) in
+    subst (Keeps (bytesRefusals w bytes)) (answer-tells told (repairsOf (judgedBytes w bytes .report)) (repairs-low (judgedBytes w bytes .report)) (small .place) (small .accepted))
+    (subst (Keeps (bytesRefusals w bytes)) (sym (bytes-answer w bytes)) (bytes-exact w bytes))
+
+-- An accepted line answers its repairs, and they are at most 2.
+pub capture-judge-repairs : (w : Walk) (bytes : List ℕ) → judgedBytes w bytes .number ≡ 0 → judgeAnswer w bytes ≡ repairsOf (judgedBytes w bytes .report)
+unfolding judgeAnswer
+capture-judge-repairs w bytes e = simp (eq-eqb _ _ e)
+
+-- Two results allowed for one line are the same.
+pub capture-judge-one-result : (w : Walk) (bytes : List ℕ) (r s : ℕ) → r ≡ judgeAnswer w bytes → s ≡ judgeAnswer w bytes → r ≡ s
+capture-judge-one-result w bytes r s e f = e ∙ sym f

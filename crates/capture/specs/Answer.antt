@@ -1,12 +1,16 @@
 -- Document 01, "The confirming program and the capture process": what the calls from C answer.
 use Prim.Native.Nat.{ℕ, _+_, _*_}
 use mathlib.Core.Bool.{cond}
+use mathlib.Core.List.{List}
 use lib.Dec.{eqb}
 use Rattle.refusal.specs.declared.Refusal.{Refusal}
 use Rattle.timing.specs.declared.Correction.{Correction}
 use Rattle.timing.specs.declared.Correction.the-variants.{Clean, Repaired, Refused}
 use Rattle.timing.specs.Code.{fourthOf, correctionOf}
 use Rattle.timing.specs.Refusals.{refusalOf}
+use Rattle.timing.specs.Report.{repairsOf}
+use Rattle.system.specs.declared.Walk.{Walk}
+use Rattle.lent.specs.Bytes.{judgedBytes}
 
 -- "Each answers one 32-bit number: a refusal's number times 65,536 plus its place."
 abbrev pub answered : Refusal → ℕ → ℕ
@@ -21,3 +25,8 @@ correctedOf (Refused number) = 0
 -- the answer to any number: over 1023 is 5, however large it is
 unfoldable pub correctAnswer : ℕ → ℕ
 correctAnswer word = answered (refusalOf (correctionOf word)) (correctedOf (correctionOf word))
+
+-- the byte judge: "an accepted line answers its repairs, 0 to 2"
+unfoldable pub judgeAnswer : Walk → List ℕ → ℕ
+judgeAnswer w bytes =
+    answered (record { number = judgedBytes w bytes .number; place = judgedBytes w bytes .place }) (repairsOf (judgedBytes w bytes .report))

@@ -1,6 +1,7 @@
 // What the capture process calls from C: include/fiskrogn.h tells it to a C programmer.
 ghost use mathlib.Core.Path.{_≡_};
-ghost use Rattle.capture.specs.Answer.{correctAnswer};
+ghost use Rattle.capture.specs.Answer.{correctAnswer, judgeAnswer};
+use system::Walk;
 use timing::Correction;
 
 // The correction of a fourth word as one number: the corrected word and 4,096 times the repaired bit, or 65,536 times the refusal's
@@ -18,6 +19,21 @@ pub extern "C" fn fiskrogn_correct(word: u32) -> u32
         Correction::Repaired { fvh, bit } => wide(timing::fourth(fvh)) + 4096 * bit,
         Correction::Refused { number } => 65536 * number,
     }
+}
+
+// Judges the line that a walk awaits, lent as bytes, two per word, low byte first: 65,536 times a refusal's number plus its place, or the
+// line's repairs. The walk is given by all that it holds, and none is handed back.
+#[no_mangle]
+pub extern "C" fn fiskrogn_judge(system: u32, line: u32, lines_read: u32, repairs: u32, bytes: &[u8]) -> u32
+    ensures { λ r. ⌜ r ≡ judgeAnswer (record { system = system; line = line; lines = «lines_read»; repairs = repairs }) (now (bytes .entry)) ⌝ }
+{
+    let walk = Walk { system, line, lines: lines_read, repairs };
+    let judgement = lent::judge(walk, bytes);
+    if judgement.number != 0 {
+        return 65536 * judgement.number + judgement.place as u32;
+    }
+    let report = judgement.report;
+    system::repairs(report)
 }
 
 fn wide(word: u16) -> u32

@@ -1,12 +1,12 @@
 -- A written line that damage struck, read: no fault and its samples back, or 8 in its place. By what is due at each offset. Assumes nothing.
-use Prim.Native.Nat.{ℕ, _+_, _-_, _*_, _/_, _%_, _<_, _≤_}
+use Prim.Native.Nat.{ℕ, zero, suc, _+_, _-_, _*_, _/_, _%_, _<_, _≤_}
 use mathlib.Core.Path.{_≡_, refl, sym, ap, subst, _∙_}
 use mathlib.Core.List.{List}
 use mathlib.Core.Bool.{Bool, true, false, cond}
 use native.Mathlib.Omega.{arith}
 use lib.Dec.{ltb, eqb}
 use lib.ListN.{length, getD}
-use borrow.Author.Tests.{le-ltb, lt-ltb}
+use borrow.Author.Tests.{le-ltb, lt-ltb, eq-eqb}
 use Rattle.refusal.specs.Answer.{none}
 use Rattle.refusal.proofs.Firsts.{first-none, first-at}
 use Rattle.timing.specs.declared.Correction.{Correction}
@@ -22,7 +22,7 @@ use Rattle.line.specs.Due.{flagsOf, dueAt}
 use Rattle.line.specs.Fault.{faultWhere, faultAt, wordRefusal}
 use Rattle.line.specs.Samples.{Samples, activeLength, sampleAt, wordWhere, wordAt, lineOf, samplesOf}
 use Rattle.line.specs.Fit.{Fit}
-use Rattle.line.specs.Damage.{Near, DamagedUpTo}
+use Rattle.line.specs.Damage.{Near, DamagedUpTo, toldOf}
 use Rattle.line.proofs.Tabs.{length-tab, getD-tab}
 use Rattle.line.proofs.Dues.{by-due, eav-due, sav-due, due-eav, due-sample, flags-low}
 use Rattle.line.proofs.Faults.{ones-well, zeros-well, fourth-fault, fill-well, sample-well}
@@ -53,6 +53,14 @@ away-found fvh r n hk h l =
 
 away-well : (fvh r n : ℕ) → fvh < 8 → Away fvh n r → n ≤ 1 → faultWhere (Fourth fvh) r ≡ 0
 away-well fvh r n hk h l = fourth-fault fvh r ∙ ap (numberWhere fvh) (away-found fvh r n hk h (omega arith)) ∙ found-accepted fvh (sevenOf r) n l
+
+found-told : (fvh r n : ℕ) → distanceOf (sevenOf r) (sevenOf (fourthOf fvh)) ≡ n → n ≤ 1 → codeReportOf (found fvh (sevenOf r) n) ≡ toldOf fvh r
+found-told fvh r n e l = go n (ap (λ (q : ℕ). distanceOf (sevenOf r) q) (sym (fourth-seven fvh)) ∙ e) l
+  where
+    go : (k : ℕ) → distanceOf (sevenOf r) (legalOf fvh) ≡ k → k ≤ 1 → codeReportOf (found fvh (sevenOf r) k) ≡ toldOf fvh r
+    go zero q h = simp (eq-eqb _ _ q)
+    go (suc zero) q h = simp q
+    go (suc (suc k)) q h = absurd (omega arith)
 
 -- the first three words of EAV are the same in every line
 header : (d b : Due) (i : ℕ) → i < 3 → dueAt d i ≡ dueAt b i
@@ -113,6 +121,15 @@ module _ (d : Due) (ok : Proper d) (p : Samples) (fit : Fit d p) (read : List �
 
   pub sav-counted : savOffset (d .system) + 3 < end → s ≤ 1 → repairsIn (codeReportOf (correctionOf (getD read (savOffset (d .system) + 3) 0))) ≡ s
   sav-counted l hs = ap (λ (c : Correction). repairsIn (codeReportOf c)) (sav-found l (omega arith)) ∙ found-repairs _ _ s hs
+
+  -- and its report names exactly the inverted bit
+  pub eav-told : 3 < end → e ≤ 1 → codeReportOf (correctionOf (getD read 3 0)) ≡ toldOf (flagsOf d true) (getD read 3 0)
+  eav-told l he = ap codeReportOf (eav-found l (omega arith)) ∙ found-told (flagsOf d true) (getD read 3 0) e (eav-away l .1) he
+
+  pub sav-told : savOffset (d .system) + 3 < end → s ≤ 1
+      → codeReportOf (correctionOf (getD read (savOffset (d .system) + 3) 0)) ≡ toldOf (flagsOf d false) (getD read (savOffset (d .system) + 3) 0)
+  sav-told l hs =
+      ap codeReportOf (sav-found l (omega arith)) ∙ found-told (flagsOf d false) (getD read (savOffset (d .system) + 3) 0) s (sav-away l .1) hs
 
   -- Two inverted bits in EAV: 8 there, whatever the reader takes to be due in the rest of the line.
   pub two-in-eav : (b : Due) → 3 < end → e ≡ 2 → wordRefusal b read ≡ record { number = 8; place = 3 }

@@ -5,9 +5,11 @@ use mathlib.Core.Path.{_≡_}
 use mathlib.Core.List.{List}
 use mathlib.Core.Bool.{cond}
 use lib.Bits.{bitXor}
-use lib.Dec.{ltb}
+use lib.Dec.{ltb, eqb}
 use lib.ListN.{length, getD}
-use Rattle.timing.specs.Code.{sevenOf, distanceOf}
+use Rattle.timing.specs.declared.CodeReport.{CodeReport}
+use Rattle.timing.specs.declared.CodeReport.the-variants.{Clean, Repaired}
+use Rattle.timing.specs.Code.{legalOf, sevenOf, distanceOf, bitOf}
 use Rattle.line.specs.declared.Due.{Due}
 use Rattle.line.specs.declared.What.{What}
 use Rattle.line.specs.declared.What.the-variants.{Ones, Zeros, Fourth, Fill, Sample}
@@ -43,3 +45,8 @@ struckWhere Sample mask low written = written
 unfoldable pub struck : Due → ℕ → ℕ → (ℕ → ℕ) → List ℕ → List ℕ
 struck d eav sav low written =
     tab (length written) (λ i. struckWhere (dueAt d i) (cond (ltb i 4) eav sav) (low i) (getD written i 0))
+
+-- What is to be told of a fourth word that is read where these F, V, H were written: clean, or the bit that differs.
+abbrev pub toldOf : ℕ → ℕ → CodeReport
+toldOf fvh read =
+    cond (eqb (distanceOf (sevenOf read) (legalOf fvh)) 0) Clean (Repaired (bitOf (sevenOf read) (legalOf fvh)))

@@ -1,0 +1,178 @@
+// The confirming program: reads a recording from standard input and prints five lines. All that it decides is in `confirmation`.
+ghost use Prim.Native.Nat.{_≤_};
+ghost use lib.ListN.{length};
+use confirmation::Outcome;
+use confirmation::Run;
+use libc::STDERR_FILENO;
+use libc::STDIN_FILENO;
+use libc::STDOUT_FILENO;
+use system::Walk;
+
+// How many lines the buffer holds: a whole number, so that no bytes are ever moved. A live pipe's lines are judged as they come.
+const LINES_HELD: usize = 18;
+
+// The longest line has 1728 words of two bytes.
+const ROOM: usize = LINES_HELD * 2 * system::System625::LINE_LENGTH;
+
+// How many reads pass between two reports of progress.
+const READS_A_REPORT: u64 = 4096;
+
+// The bytes at..have of the buffer are read and not taken yet.
+struct Input {
+    run: Run,
+    at: usize,
+    have: usize,
+    is_open: bool,
+    is_failed: bool,
+}
+
+// A run, and the offset in the buffer of the first byte that it has not taken.
+struct Reached {
+    run: Run,
+    at: usize,
+}
+
+// Follows the run over the bytes at..have of the buffer.
+fn follow_ready(run: Run, buffer: &[u8], at: usize, have: usize) -> Reached
+    requires { ⌜ (at ≤ have) × (have ≤ length (now buffer)) ⌝ }
+    ensures { λ r. ⌜ r .at ≤ have ⌝ }
+{
+    let followed = run.follow(&buffer[at..have]);
+    let next = followed.run;
+    Reached { run: next, at: at + followed.taken }
+}
+
+// Reads once and follows the run over what lies ready; at the end of the input, closes the run. A failed read is not the end.
+fn turn(run: Run, at: usize, have: usize, buffer: &mut [u8]) -> Input
+    requires { ⌜ (at ≤ have) × (have ≤ length (now buffer)) ⌝ }
+    ensures { λ r. ⌜ (r .at ≤ r .have) × (r .have ≤ length (now (buffer .exit))) ⌝ }
+{
+    let size = buffer.len();
+    let got = libc::read(STDIN_FILENO, &mut buffer[have..]);
+    let more = io::count(got, &buffer[have..]);
+    if more == 0 {
+        if got < 0 {
+            return Input { run, at, have, is_open: false, is_failed: true };
+        }
+        let closed = run.close(&buffer[at..have]);
+        return Input { run: closed, at, have, is_open: false, is_failed: false };
+    }
+    let full = have + more;
+    let reached = follow_ready(run, buffer, at, full);
+    let next = reached.run;
+    if reached.at == size {
+        return Input { run: next, at: 0, have: 0, is_open: next.number == 0, is_failed: false };
+    }
+    Input { run: next, at: reached.at, have: full, is_open: next.number == 0, is_failed: false }
+}
+
+// How far the run is, on one line of a terminal.
+fn show(run: Run) {
+    let walk = run.walk;
+    io::write_all(STDERR_FILENO, b"\rlines ");
+    io::print_decimal(STDERR_FILENO, walk.lines as u64);
+    io::write_all(STDERR_FILENO, b" repairs ");
+    io::print_decimal(STDERR_FILENO, walk.repairs as u64);
+}
+
+// Follows the run to the end of the input or its first refusal. A proved loop has to end, and nothing says that the input does: the
+// turns count down from a number that no run uses up.
+fn follow(run: Run, buffer: &mut [u8], is_shown: bool) -> Input {
+    let mut input = Input { run, at: 0, have: 0, is_open: true, is_failed: false };
+    let mut turns = u64::MAX;
+    while turns > 0 && input.is_open {
+        input = turn(input.run, input.at, input.have, buffer);
+        turns -= 1;
+        if is_shown && turns % READS_A_REPORT == 0 {
+            show(input.run);
+        }
+    }
+    input
+}
+
+// What a header's four bytes were filled with.
+struct Header {
+    have: usize,
+    is_failed: bool,
+}
+
+// Reads until the buffer is full, the input ends or a read fails.
+fn fill(buffer: &mut [u8]) -> Header
+    ensures { λ r. ⌜ r .have ≤ length (now (buffer .exit)) ⌝ }
+{
+    let mut have: usize = 0;
+    while have < buffer.len() {
+        let got = libc::read(STDIN_FILENO, &mut buffer[have..]);
+        let more = io::count(got, &buffer[have..]);
+        if more == 0 {
+            return Header { have, is_failed: got < 0 };
+        }
+        have += more;
+    }
+    Header { have, is_failed: false }
+}
+
+fn say(name: &[u8], number: u64) {
+    io::write_all(STDOUT_FILENO, name);
+    io::print_decimal(STDOUT_FILENO, number);
+}
+
+fn print(outcome: Outcome) {
+    say(b"SYSTEM ", outcome.system as u64);
+    say(b"\nSTART ", outcome.start as u64);
+    say(b"\nLINES ", outcome.lines as u64);
+    say(b"\nREPAIRS ", outcome.repairs as u64);
+    say(b"\nRESULT ", outcome.number as u64);
+    say(b" ", outcome.line as u64);
+    say(b" ", outcome.place as u64);
+    io::write_all(STDOUT_FILENO, b"\n");
+}
+
+// No result is printed where the input could not be read: a shorter file must not be confirmed in its place.
+fn fail() {
+    io::write_all(STDERR_FILENO, b"confirm: the input could not be read\n");
+}
+
+// The words of the line that a walk awaits.
+fn line_length(walk: Walk) -> usize
+    ensures { λ r. ⌜ r ≤ 1728 ⌝ }
+{
+    system::system_of(walk.system).line_length()
+}
+
+// The lines behind the header, in a buffer that is cut to a whole number of them.
+fn confirm(run: Run, buffer: &mut [u8]) {
+    if run.number != 0 {
+        print(run.outcome());
+        return;
+    }
+    let walk = run.walk;
+    let size = 2 * LINES_HELD * line_length(walk);
+    if buffer.len() < size {
+        fail();
+        return;
+    }
+    let is_shown = libc::isatty(STDERR_FILENO) == 1;
+    let input = follow(run, &mut buffer[0..size], is_shown);
+    if is_shown {
+        io::write_all(STDERR_FILENO, b"\r");
+    }
+    if input.is_failed {
+        fail();
+        return;
+    }
+    print(input.run.outcome());
+}
+
+fn main() {
+    let mut header = [0u8; 4];
+    let filled = fill(&mut header);
+    if filled.is_failed {
+        fail();
+        return;
+    }
+    let have = filled.have;
+    let run = Run::begin(&header[0..have]);
+    let mut buffer = [0u8; ROOM];
+    confirm(run, &mut buffer);
+}

@@ -1,0 +1,5 @@
+pub mod Nexts
+pub mod Bodies
+pub mod Follows
+pub mod Reached
+pub mod Theorems

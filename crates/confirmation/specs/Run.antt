@@ -1,0 +1,84 @@
+-- Document 01, "The confirming program": what a run over bytes comes to, whole, for every list of bytes.
+use Prim.Native.Nat.{ℕ, zero, suc, _*_}
+use mathlib.Core.List.{List, [], _∷_}
+use mathlib.Core.Bool.{cond}
+use lib.Dec.{ltb, eqb}
+use lib.ListN.{length, take, drop}
+use Rattle.system.specs.declared.Walk.{Walk}
+use Rattle.system.specs.Figures.{lineLength, systemOf}
+use Rattle.system.specs.Walk.{freshOf}
+use Rattle.lent.specs.Bytes.{wordOfBytes, judgedBytes}
+use Rattle.confirmation.specs.declared.Run.{Run}
+use Rattle.confirmation.specs.declared.Outcome.{Outcome}
+
+-- "16-bit words, low byte first: system, start line": four bytes
+abbrev pub headerLength : ℕ
+headerLength = 4
+
+-- "Under 4 bytes of header count as system 0, start 0."
+abbrev pub headerWord : List ℕ → ℕ → ℕ
+headerWord bytes i = cond (ltb (length bytes) headerLength) 0 (wordOfBytes bytes i)
+
+abbrev pub headerSystem : List ℕ → ℕ
+headerSystem bytes = headerWord bytes 0
+
+abbrev pub headerStart : List ℕ → ℕ
+headerStart bytes = headerWord bytes 2
+
+-- a run after its header: a fresh walk, or its refusal
+unfoldable pub begunOf : List ℕ → Run
+begunOf bytes =
+    record {
+      system = headerSystem bytes;
+      start = headerStart bytes;
+      walk = freshOf (headerSystem bytes) (headerStart bytes) .walk;
+      number = freshOf (headerSystem bytes) (headerStart bytes) .number;
+      place = freshOf (headerSystem bytes) (headerStart bytes) .place;
+    }
+
+-- the bytes of the line that a walk awaits
+abbrev pub lineBytes : Walk → ℕ
+lineBytes w = 2 * lineLength (systemOf (w .system))
+
+-- a run after these bytes were judged as its next line: bytes short of a line are 3, "but any byte after 10,000,000 lines is refusal 4"
+unfoldable pub judgedNext : Run → List ℕ → Run
+judgedNext r bytes =
+    record {
+      system = r .system;
+      start = r .start;
+      walk = judgedBytes (r .walk) bytes .walk;
+      number = judgedBytes (r .walk) bytes .number;
+      place = judgedBytes (r .walk) bytes .place;
+    }
+
+-- bytes cut into pieces of n, of which the last may be short; at most k of them
+unfoldable pub pieces : ℕ → ℕ → List ℕ → List (List ℕ)
+pieces zero n bytes = []
+pieces (suc k) n [] = []
+pieces (suc k) n (b ∷ bytes) = take n (b ∷ bytes) ∷ pieces k n (drop n (b ∷ bytes))
+
+-- "It stops at the first refusal."
+unfoldable pub through : Run → List (List ℕ) → Run
+through r [] = r
+through r (piece ∷ rest) = cond (eqb (r .number) 0) (through (judgedNext r piece) rest) r
+
+-- the run over the bytes behind the header
+unfoldable pub bodyOf : Run → List ℕ → Run
+bodyOf r bytes = through r (pieces (length bytes) (lineBytes (r .walk)) bytes)
+
+-- the whole run
+unfoldable pub confirmedOf : List ℕ → Run
+confirmedOf bytes = bodyOf (begunOf bytes) (drop headerLength bytes)
+
+-- "RESULT is number, awaited line, place; the line is 0 for an accepted run and for refusals 1 and 2."
+unfoldable pub outcomeOf : Run → Outcome
+outcomeOf r =
+    record {
+      system = r .system;
+      start = r .start;
+      lines = r .walk .lines;
+      repairs = r .walk .repairs;
+      number = r .number;
+      line = cond (ltb (r .number) 3) 0 (r .walk .line);
+      place = r .place;
+    }

@@ -1,0 +1,76 @@
+-- The promises on a line lent as bytes, of the definitions that the call's contract cites. Assumes nothing.
+use Prim.Native.Nat.{ℕ, _*_}
+use mathlib.Core.Path.{_≡_, refl, sym, ap, _∙_}
+use mathlib.Core.Bool.{not}
+use mathlib.Core.List.{List}
+use mathlib.Core.Logic.{⊎-elim}
+use native.Mathlib.Omega.{arith}
+use lib.Dec.{eqb}
+use lib.ListN.{length}
+use borrow.Author.Tests.{eq-eqb, ne-eqb, eqb-true, eqb-false}
+use Rattle.refusal.specs.declared.Refusal.{Refusal}
+use Rattle.refusal.specs.Answer.{none, refuse, orElse}
+use Rattle.refusal.specs.Table.{when, _before_, Keeps}
+use Rattle.refusal.proofs.Cases.{by-test, not-true}
+use Rattle.refusal.proofs.Firsts.{orElse-accepted}
+use Rattle.refusal.proofs.Tables.{keeps-when, keeps-before, keeps-last, Decides, decides-when, decides-before}
+use Rattle.system.specs.declared.Walk.{Walk}
+use Rattle.system.specs.Figures.{lineLength, systemOf}
+use Rattle.system.specs.Walk.{walkRefusal}
+use Rattle.system.proofs.Theorems.{walk-exact, walk-decides}
+use Rattle.line.specs.Fault.{wordRefusal}
+use Rattle.line.proofs.Theorems.{words-exact, words-decide}
+use Rattle.reader.specs.declared.Judgement.{Judgement}
+use Rattle.reader.specs.Judge.{dueIn, readRefusal, reportOf, judgementOf, judgedOf}
+use Rattle.lent.specs.Bytes.{wordsOf, bytesRefusal, judgedBytes}
+use Rattle.lent.specs.Refusals.{bytesRefusals}
+use Rattle.lent.proofs.Bytes.{words-length}
+
+-- the same test of lengths, of bytes and of words
+same-test : (m n : ℕ) → eqb (2 * m) (2 * n) ≡ eqb m n
+same-test m n =
+    by-test (eqb m n)
+    (λ t. let e = eqb-true m n t in eq-eqb (2 * m) (2 * n) (omega arith) ∙ sym t)
+    (λ f. ne-eqb (2 * m) (2 * n) (λ e. eqb-false m n f (omega arith)) ∙ sym f)
+
+module _ (w : Walk) (bytes : List ℕ) where
+  -- ---- Two bytes for each word: the line is refused as its words are, and judged as they are.
+  pub bytes-refused-as-words : (n : ℕ) → length bytes ≡ 2 * n → bytesRefusal w bytes ≡ readRefusal none w (wordsOf bytes)
+  unfolding bytesRefusal readRefusal
+  bytes-refused-as-words n even =
+      let rest = orElse (wordRefusal (dueIn w (wordsOf bytes)) (wordsOf bytes)) none in
+      rw (even, words-length bytes n even, same-test n, orElse-accepted none rest refl)
+
+  pub bytes-as-words : (n : ℕ) → length bytes ≡ 2 * n → judgedBytes w bytes ≡ judgedOf none w (wordsOf bytes)
+  unfolding judgedBytes judgedOf
+  bytes-as-words n even =
+      ap (λ (r : Refusal). judgementOf r w (reportOf (dueIn w (wordsOf bytes)) (wordsOf bytes))) (bytes-refused-as-words n even)
+
+  -- ---- Each refusal comes exactly when its condition holds and none earlier does.
+  pub bytes-exact : Keeps (bytesRefusals w bytes) (bytesRefusal w bytes)
+  unfolding bytesRefusal
+  bytes-exact =
+      let size : ℕ = 2 * lineLength (systemOf (w .system)) in
+      keeps-before _ _ (walkRefusal w) _ (walk-exact w)
+      (keeps-before _ _ (refuse (not (eqb (length bytes) size)) 3 0) _
+      (keeps-when (not (eqb (length bytes) size)) (length bytes ≡ size → ⊥) 3 0
+      (λ t. eqb-false (length bytes) size (not-true _ t)) (λ ne. ap not (ne-eqb (length bytes) size ne)) (λ z. omega arith))
+      (keeps-last _ (wordRefusal (dueIn w (wordsOf bytes)) (wordsOf bytes)) (words-exact (dueIn w (wordsOf bytes)) (wordsOf bytes))))
+
+  -- What is refused is the answer: its number and place are the refusal's.
+  pub bytes-answer : record { number = judgedBytes w bytes .number; place = judgedBytes w bytes .place } ≡ bytesRefusal w bytes
+  unfolding judgedBytes judgementOf
+  bytes-answer =
+      by-test (eqb (bytesRefusal w bytes .number) 0)
+      (λ t. simp t (sym (⊎-elim (λ k. absurd (k .1 (eqb-true _ _ t))) (λ k. k .1) bytes-exact)))
+      (λ f. simp f)
+
+  pub bytes-decide : Decides (bytesRefusals w bytes)
+  bytes-decide =
+      decides-before _ _ (walk-decides w)
+      (decides-before _ _ (decides-when (length bytes ≡ 2 * lineLength (systemOf (w .system)) → ⊥) 3 0)
+      (words-decide (dueIn w (wordsOf bytes)) (wordsOf bytes)))
+
+  -- ---- Two results allowed for one input are the same.
+  pub bytes-one-result : (r s : Judgement) → r ≡ judgedBytes w bytes → s ≡ judgedBytes w bytes → r ≡ s
+  bytes-one-result r s e f = e ∙ sym f

@@ -1,0 +1,152 @@
+-- The promises on judging and reading a line, of the definitions that the calls' contracts cite. Assumes nothing.
+use Prim.Native.Nat.{ℕ}
+use mathlib.Core.Path.{_≡_, refl, sym, ap, _∙_}
+use mathlib.Core.Bool.{true, false}
+use mathlib.Core.List.{List, []}
+use mathlib.Core.Logic.{inr}
+use native.Mathlib.Omega.{arith}
+use lib.Dec.{eqb}
+use lib.ListN.{length, take, drop, length-take, length-drop}
+use borrow.Author.Tests.{eqb-true, eqb-false}
+use Rattle.refusal.specs.declared.Refusal.{Refusal}
+use Rattle.refusal.specs.Answer.{none}
+use Rattle.refusal.specs.Table.{Row, Keeps}
+use Rattle.refusal.proofs.Cases.{by-test}
+use Rattle.refusal.proofs.Tables.{keeps-before, keeps-last, Decides, decides-when, decides-before}
+use Rattle.timing.specs.declared.Report.{Report}
+use Rattle.timing.specs.Report.{cleanReport}
+use Rattle.system.specs.declared.Walk.{Walk}
+use Rattle.system.specs.Figures.{lineLength, activeOffset, systemOf}
+use Rattle.system.specs.Walk.{walkRefusal, steppedOf}
+use Rattle.system.proofs.Theorems.{walk-exact, walk-decides}
+use Rattle.line.specs.declared.Due.{Due}
+use Rattle.line.specs.Fault.{wordRefusal}
+use Rattle.line.specs.Lengths.{lengthRefusal, bufferRefusal, bufferRefusals}
+use Rattle.line.specs.Samples.{activeLength, ysFrom, cbsFrom, crsFrom}
+use Rattle.line.proofs.Theorems.{length-exact, buffer-exact, buffer-decides, words-exact, words-decide}
+use Rattle.reader.specs.declared.Judgement.{Judgement}
+use Rattle.reader.specs.Judge.{dueIn, readRefusal, reportOf, refusedAt, acceptedAt, judgedOf, bufferAfter, activeOf}
+use Rattle.reader.specs.Refusals.{readRefusals}
+use Rattle.reader.proofs.Judged.{accepted-is-none, active-fits, judged-refused, judged-accepted, buffer-refused, buffer-blank, buffer-taken, active-refused, active-accepted}
+
+-- ---- Each refusal comes exactly when its condition holds and none earlier does.
+
+-- Reading keeps to the table 1, 2, 4, 3, lowest offset, if what is wrong with the buffers keeps to its own rows.
+pub read-exact : (rows : Row) (buffers : Refusal) (w : Walk) (words : List ℕ) → Keeps rows buffers
+    → Keeps (readRefusals rows w words) (readRefusal buffers w words)
+unfolding readRefusal
+read-exact rows buffers w words kept =
+    keeps-before _ _ (walkRefusal w) _ (walk-exact w)
+    (keeps-before _ _ (lengthRefusal (systemOf (w .system)) (length words)) _ (length-exact (systemOf (w .system)) (length words))
+    (keeps-before _ _ buffers _ kept (keeps-last _ (wordRefusal (dueIn w words) words) (words-exact (dueIn w words) words))))
+
+-- That table leaves one answer, if the buffers' rows do.
+pub read-decides : (rows : Row) (w : Walk) (words : List ℕ) → Decides rows → Decides (readRefusals rows w words)
+read-decides rows w words decided =
+    decides-before _ _ (walk-decides w)
+    (decides-before _ _ (decides-when (length words ≡ lineLength (systemOf (w .system)) → ⊥) 3 0)
+    (decides-before _ _ decided (words-decide (dueIn w words) words)))
+
+-- the rows of a call that has no sample buffers
+abbrev pub noRows : Row
+noRows r = ⊥
+
+module _ (w : Walk) (words : List ℕ) where
+  -- So do judging and asking for the active part, which have no sample buffers ..
+  pub judge-call-exact : Keeps (readRefusals noRows w words) (readRefusal none w words)
+  judge-call-exact = read-exact noRows none w words (inr (λ r q. q, refl))
+
+  pub judge-call-decides : Decides (readRefusals noRows w words)
+  judge-call-decides = read-decides noRows w words (λ r s x y. absurd x)
+
+  -- .. and reading, with its three.
+  module _ (y cb cr : ℕ) where
+    pub read-call-exact : Keeps (readRefusals (bufferRefusals y cb cr) w words) (readRefusal (bufferRefusal y cb cr) w words)
+    read-call-exact = read-exact (bufferRefusals y cb cr) (bufferRefusal y cb cr) w words (buffer-exact y cb cr)
+
+    pub read-call-decides : Decides (readRefusals (bufferRefusals y cb cr) w words)
+    read-call-decides = read-decides (bufferRefusals y cb cr) w words (buffer-decides y cb cr)
+
+-- ---- What the answer is, refused or accepted.
+
+-- what a refusal leaves as it was
+pub record Stands (w : Walk) (j : Judgement) : Type 0 where
+  pub walk : j .walk ≡ w
+  pub report : j .report ≡ cleanReport
+  pub buffer : (d : Due) (samples before : List ℕ) → bufferAfter j d samples before ≡ before
+
+-- what an accepted line leaves: the buffers hold its samples where its V is 0
+pub record Advances (w : Walk) (words : List ℕ) (j : Judgement) : Type 0 where
+  pub answer : j ≡ acceptedAt w (reportOf (dueIn w words) words)
+  pub picture : dueIn w words .v ≡ false → (samples before : List ℕ) → bufferAfter j (dueIn w words) samples before ≡ samples
+  pub blank : dueIn w words .v ≡ true → (samples before : List ℕ) → bufferAfter j (dueIn w words) samples before ≡ before
+
+module _ (buffers : Refusal) (w : Walk) (words : List ℕ) where
+  -- The judgement's number and place are those of the refusal, or both 0.
+  pub judged-number : record { number = judgedOf buffers w words .number; place = judgedOf buffers w words .place } ≡ readRefusal buffers w words
+  judged-number =
+      by-test (eqb (readRefusal buffers w words .number) 0)
+      (λ t. let z = eqb-true _ _ t in rw (judged-accepted buffers w words z, accepted-is-none buffers w words z))
+      (λ f. rw (judged-refused buffers w words _ refl (eqb-false _ _ f)))
+
+  -- A refused line leaves the walk standing, is told as clean, and writes no buffer.
+  pub refused-stands : (readRefusal buffers w words .number ≡ 0 → ⊥) → Stands w (judgedOf buffers w words)
+  refused-stands n =
+      rw (judged-refused buffers w words _ refl n)
+      (record { walk = refl; report = refl; buffer = λ d samples before. buffer-refused _ d samples before n })
+
+  -- An accepted line advances the walk by its report, and gives its samples exactly where its V is 0.
+  pub accepted-advances : readRefusal buffers w words .number ≡ 0 → Advances w words (judgedOf buffers w words)
+  accepted-advances z =
+      rw (judged-accepted buffers w words z)
+      (record {
+        answer = refl;
+        picture = λ v samples before. buffer-taken _ _ samples before refl v;
+        blank = λ v samples before. buffer-blank _ _ samples before refl v;
+      })
+
+module _ (w : Walk) (words : List ℕ) where
+  -- The active part of an accepted line is 1440 words of that line, from where its SAV ends.
+  pub active-part : readRefusal none w words .number ≡ 0
+      → (activeOf w words ≡ take activeLength (drop (activeOffset (systemOf (w .system))) words)) × (length (activeOf w words) ≡ activeLength)
+  active-part z =
+      let part = active-accepted w words z in
+      let fits = active-fits none w words z in
+      (part, rw part (simp (length-take, length-drop) (omega arith)))
+
+  -- The active part is empty exactly when reading the line would be refused, whatever the sample buffers.
+  pub active-empty-exactly : ((readRefusal none w words .number ≡ 0 → ⊥) → activeOf w words ≡ [])
+      × (activeOf w words ≡ [] → readRefusal none w words .number ≡ 0 → ⊥)
+  active-empty-exactly =
+      (active-refused w words, λ empty z. let whole = active-part z .1 in let gone = ap length empty in omega arith)
+
+-- ---- Two results that a contract allows for one input are the same.
+
+pub refused-one-result : (w : Walk) (refusal : Refusal) (r s : Judgement) → r ≡ refusedAt w refusal → s ≡ refusedAt w refusal → r ≡ s
+refused-one-result w refusal r s e f = e ∙ sym f
+
+pub accepted-one-result : (w : Walk) (report : Report) (r s : Judgement) → r ≡ record { number = 0; place = 0; report = report; walk = steppedOf w report }
+    → s ≡ record { number = 0; place = 0; report = report; walk = steppedOf w report } → r ≡ s
+accepted-one-result w report r s e f = e ∙ sym f
+
+pub judge-one-result : (w : Walk) (words : List ℕ) (r s : Judgement) → r ≡ judgedOf none w words → s ≡ judgedOf none w words → r ≡ s
+judge-one-result w words r s e f = e ∙ sym f
+
+pub active-one-result : (w : Walk) (words r s : List ℕ) → r ≡ activeOf w words → s ≡ activeOf w words → r ≡ s
+active-one-result w words r s e f = e ∙ sym f
+
+-- what reading may leave: the judgement, and each buffer after it
+pub record Read (w : Walk) (words y cb cr : List ℕ) (r : Judgement) (y-after cb-after cr-after : List ℕ) : Type 0 where
+  pub answer : r ≡ judgedOf (bufferRefusal (length y) (length cb) (length cr)) w words
+  pub ys : y-after ≡ bufferAfter r (dueIn w words) (ysFrom (activeOffset (systemOf (w .system))) words) y
+  pub cbs : cb-after ≡ bufferAfter r (dueIn w words) (cbsFrom (activeOffset (systemOf (w .system))) words) cb
+  pub crs : cr-after ≡ bufferAfter r (dueIn w words) (crsFrom (activeOffset (systemOf (w .system))) words) cr
+
+pub read-one-result : (w : Walk) (words y cb cr : List ℕ) (r s : Judgement) (y-r cb-r cr-r y-s cb-s cr-s : List ℕ)
+    → Read w words y cb cr r y-r cb-r cr-r → Read w words y cb cr s y-s cb-s cr-s → (r ≡ s) × (y-r ≡ y-s) × (cb-r ≡ cb-s) × (cr-r ≡ cr-s)
+read-one-result w words y cb cr r s y-r cb-r cr-r y-s cb-s cr-s a b =
+    let same : r ≡ s = a .answer ∙ sym (b .answer) in
+    (same, a .ys ∙ after same _ y ∙ sym (b .ys), a .cbs ∙ after same _ cb ∙ sym (b .cbs), a .crs ∙ after same _ cr ∙ sym (b .crs))
+  where
+    after : r ≡ s → (samples before : List ℕ) → bufferAfter r (dueIn w words) samples before ≡ bufferAfter s (dueIn w words) samples before
+    after e samples before = ap (λ (j : Judgement). bufferAfter j (dueIn w words) samples before) e

@@ -1,0 +1,18 @@
+-- `reader::active_offset` meets its contract: no sum wraps, since SAV starts low. Assumes nothing.
+use borrow.Author.Needs.{needs}
+use native.Mathlib.Omega.{arith}
+use Rattle.system.proofs.Laws.{sav-high}
+use Rattle.reader.proofs.active_offset.Statement.{statement}
+use Rattle.reader.proofs.active_offset.Tie as tie
+
+sav-offset-requires : tie.Need-sav-offset-requires
+sav-offset-requires c κs = search needs
+
+add-result : tie.Need-add-result
+add-result c = omega (arith, c .sav-offset .ensures, sav-high (c .before .args .system))
+
+returns : tie.Need-returns
+returns c = search needs
+
+pub active-offset-spec : {M : Type 1} → statement M
+active-offset-spec = tie.close (tie.spec sav-offset-requires add-result returns)

@@ -1,0 +1,30 @@
+-- `reader::pass::first_fault` meets its contract: where no offset has a fault the scan would find none. Assumes nothing.
+use borrow.Author.Needs.{needs}
+use mathlib.Core.Path.{sym}
+use native.Mathlib.Omega.{arith}
+use denote.Ref.{now}
+use lib.ListN.{length}
+use Rattle.refusal.proofs.Firsts.{first-none}
+use Rattle.line.specs.Fault.{faultAt, wordRefusal}
+use Rattle.reader.proofs.pass.first_fault.Statement.{statement}
+use Rattle.reader.proofs.pass.first_fault.Tie as tie
+
+all-well-requires : tie.Need-all-well-requires
+all-well-requires c κs = search needs
+
+returns : tie.Need-returns
+unfolding wordRefusal
+returns c =
+    let a = c .before .before .before .args in
+    sym
+    (first-none (faultAt (a .d) (now (a .words))) (length (now (a .words)))
+    (λ j l. c .before .all-well .ensures (c .if1 .taken) j (omega arith)))
+
+scan-requires : tie.Need-scan-requires
+scan-requires c κs = search needs
+
+returns-2 : tie.Need-returns-2
+returns-2 c = search needs
+
+pub first-fault-spec : {M : Type 1} → statement M
+first-fault-spec = tie.close (tie.spec all-well-requires returns scan-requires returns-2)

@@ -1,0 +1,5 @@
+pub mod OneLine
+pub mod Lines
+pub mod Theorems
+pub mod PerLine
+pub mod Samples

@@ -1,0 +1,255 @@
+-- Demand 3: what went in is what reads back, and nothing else is ever confirmed. By induction over the lines of a recording; a line's
+-- words are looked at nowhere here. Assumes nothing.
+use Prim.Native.Nat.{ℕ, zero, suc, _+_, _*_, _<_, _≤_}
+use mathlib.Core.Path.{_≡_, refl, sym, ap, subst, _∙_}
+use mathlib.Core.List.{List, [], _∷_, _++_, append-nil}
+use mathlib.Core.Bool.{Bool, true, false, cond}
+use mathlib.Core.Logic.{_⊎_, inl, inr, ⊎-elim}
+use native.Mathlib.Omega.{arith}
+use native.Mathlib.Nat.{zero-add}
+use lib.Dec.{eqb}
+use lib.ListN.{length, getD}
+use borrow.Author.Tests.{eq-eqb, ne-eqb, eqb-true, eqb-false}
+use Rattle.refusal.specs.declared.Refusal.{Refusal}
+use Rattle.refusal.specs.Answer.{none}
+use Rattle.refusal.proofs.Cases.{by-test}
+use Rattle.timing.specs.declared.Report.{Report}
+use Rattle.timing.specs.Code.{correctionOf}
+use Rattle.timing.specs.Report.{codeReportOf}
+use Rattle.timing.proofs.Laws.{one-repair}
+use Rattle.system.specs.declared.Walk.{Walk}
+use Rattle.system.specs.Figures.{lineLength, savOffset, activeOffset, vOf, isSystem, systemOf, nextLine}
+use Rattle.system.specs.Walk.{mostLines, isLine, freshOf, advancedOf}
+use Rattle.system.proofs.Laws.{Good, next-line-in, line-is-parts, fresh-accepted, fresh-no-line, fresh-no-system}
+use Rattle.line.specs.declared.Due.{Due}
+use Rattle.line.specs.Due.{dueOf}
+use Rattle.line.specs.Fault.{wordRefusal}
+use Rattle.line.specs.Samples.{Samples, lineOf, samplesOf}
+use Rattle.line.specs.Fit.{Measured, Fit}
+use Rattle.line.specs.Damage.{Damaged, DamagedUpTo}
+use Rattle.line.proofs.Damaged.{Proper, line-length, damaged-accepted, eav-counted, sav-counted, two-in-eav, two-in-sav, samples-unchanged}
+use Rattle.line.proofs.Places.{taken-measured}
+use Rattle.line.proofs.Images.{repairsAt, accepted-fit, accepted-image}
+use Rattle.reader.specs.declared.Judgement.{Judgement}
+use Rattle.reader.specs.Judge.{dueIn, reportOf, acceptedAt, refusedAt}
+use Rattle.writer.specs.Write.{writeRefusal, lineAfter}
+use Rattle.writer.specs.Fit.{Writable}
+use Rattle.writer.proofs.Theorems.{written-samples-fit, accepted-writes-the-line}
+use Rattle.recording.specs.Recording.{Recording, end, next, pictures, lineAfterAll, TwoInverted, in-eav, in-sav}
+use Rattle.recording.specs.Play.{readAnswer, readBuffers, Played, andThen, stoppedBy, play}
+use Rattle.recording.proofs.OneLine.{picture-buffers, blank-buffers, buffers-measured, Accepted, answered-accepted}
+use Rattle.recording.proofs.Lines.{at, proper, fit, of-line, line-accepted, plays-on, refused-there, stops}
+
+abbrev after : List Samples → Played → Played
+after qs r = record { pictures = qs ++ r .pictures; number = r .number; place = r .place; walk = r .walk }
+
+-- a line's picture before those behind it
+kept-before : (v : Bool) (p : Samples) (qs : List Samples) (r : Played) → andThen v p (after qs r) ≡ after (cond v qs (p ∷ qs)) r
+kept-before true p qs r = refl
+kept-before false p qs r = refl
+
+-- what is played from buffers that hold something of the right lengths
+abbrev PlaysFrom : Walk → List (List ℕ) → (Samples → Played) → Samples → Type 0
+PlaysFrom w reads f b = (c : Samples) × Measured c × (play w b reads ≡ f c)
+
+-- a recording is read to its end, whatever follows it
+through : {system line altered : ℕ} {ps : List Samples} {reads : List (List ℕ)} → Recording system line ps reads altered
+    → isSystem system ≡ true → (lines repairs : ℕ) (b : Samples) → Measured b → (rest : List (List ℕ))
+    → isLine system line ≡ true → lines + length ps ≤ mostLines → repairs ≤ 2 * lines
+    → PlaysFrom (at system line lines repairs) (reads ++ rest)
+      (λ c. after (pictures system line ps) (play (at system (lineAfterAll system line ps) (lines + length ps) (repairs + altered)) c rest)) b
+through {system} {line} end hs lines repairs b m rest hl hn hr =
+    let e : lines + 0 ≡ lines = omega arith in
+    let f : repairs + 0 ≡ repairs = omega arith in
+    (b, m, rw (e, f))
+through {system} (next {line = line} {eav = eav} {sav = sav} {altered = altered} {p = p} {read = read} {ps = ps} {reads = reads} buffer written dam he hs' more) hs lines repairs b m rest hl hn hr =
+    let w = at system line lines repairs in
+    let good : Good w = record { system = hs; line = hl; lines = omega arith; repairs = hr } in
+    let whole = accepted-writes-the-line system line p buffer written .1 in
+    let size = length (lineAfter system line p buffer) in
+    let low : size ≤ lineLength (systemOf system) = omega arith in
+    let accepted = line-accepted w good b m p buffer read eav sav size written low dam whole he hs' in
+    let rest-of = through more hs (lines + 1) (repairs + (eav + sav)) (readBuffers w b read) (buffers-measured w good b m read accepted) rest
+          (next-line-in system line hl) (omega arith) (omega arith) in
+    let e : lines + 1 + length ps ≡ lines + suc (length ps) = omega arith in
+    let f : repairs + (eav + sav) + altered ≡ repairs + (eav + sav + altered) = omega arith in
+    (rest-of .0, rest-of .1,
+    plays-on w good b m p buffer read eav sav size written low dam whole he hs' (reads ++ rest)
+    ∙ ap (andThen (vOf (systemOf system) line) p) (rest-of .2)
+    ∙ kept-before (vOf (systemOf system) line) p (pictures system (nextLine (systemOf system) line) ps) _
+    ∙ rw (e, f))
+
+-- ---- a fresh walk
+record Fresh (system start : ℕ) : Type 0 where
+  a-system : isSystem system ≡ true
+  a-line : isLine system start ≡ true
+  walk : freshOf system start .walk ≡ at system start 0 0
+
+fresh : (system start : ℕ) → freshOf system start .number ≡ 0 → Fresh system start
+fresh system start e =
+    by-test (isSystem system)
+    (λ s. by-test (isLine system start)
+      (λ l. record { a-system = s; a-line = l; walk = ap (λ f. f .walk) (fresh-accepted system start s l) })
+      (λ l. absurd (never 2 (λ z. omega arith) (ap (λ f. f .number) (fresh-no-line system start s l)))))
+    (λ s. absurd (never 1 (λ z. omega arith) (ap (λ f. f .number) (fresh-no-system system start s))))
+  where
+    never : (n : ℕ) → (n ≡ 0 → ⊥) → freshOf system start .number ≡ n → ⊥
+    never n positive q = positive (sym q ∙ e)
+
+-- the walk after a recording is one that refuses no line, as long as there is room for one more
+line-after-in : (system line : ℕ) (ps : List Samples) → isLine system line ≡ true → isLine system (lineAfterAll system line ps) ≡ true
+line-after-in system line [] h = h
+line-after-in system line (p ∷ ps) h = line-after-in system (nextLine (systemOf system) line) ps (next-line-in system line h)
+
+few : {system line altered : ℕ} {ps : List Samples} {reads : List (List ℕ)} → Recording system line ps reads altered → altered ≤ 2 * length ps
+few end = omega arith
+few (next buffer written dam he hs more) = omega (arith, few more)
+
+-- a line with two inverted bits in a code is refused there
+pub two-inverted-line-refused : {w : Walk} {p : Samples} {read : List ℕ} {place : ℕ} → Good w → (b : Samples) → Measured b
+    → TwoInverted (w .system) (w .line) p read place → readAnswer w b read ≡ refusedAt w (record { number = 8; place = place })
+unfolding dueIn dueOf
+two-inverted-line-refused {w} {p} {read} good b m (in-eav {sav = sav} buffer written dam) =
+    let low : 4 ≤ lineLength (systemOf (w .system)) = omega (arith, line-is-parts (systemOf (w .system))) in
+    let fit-line = fit w good b m p buffer read 2 sav 4 written low dam in
+    let struck = of-line w good b m p buffer read 2 sav 4 written low dam in
+    let d = dueOf (systemOf (w .system)) (w .line) in
+    refused-there w good b m p buffer read 2 sav 4 written low dam 3
+    (two-in-eav d (proper (w .system) (w .line)) p fit-line read 2 sav 4 low struck (dueIn w read) (omega arith) refl)
+two-inverted-line-refused {w} {p} {read} good b m (in-sav {eav = eav} buffer written dam he) =
+    let end-at = activeOffset (systemOf (w .system)) in
+    let low : end-at ≤ lineLength (systemOf (w .system)) = omega (arith, line-is-parts (systemOf (w .system))) in
+    let fit-line = fit w good b m p buffer read eav 2 end-at written low dam in
+    let struck = of-line w good b m p buffer read eav 2 end-at written low dam in
+    let d = dueOf (systemOf (w .system)) (w .line) in
+    refused-there w good b m p buffer read eav 2 end-at written low dam (savOffset (systemOf (w .system)) + 3)
+    (two-in-sav d (proper (w .system) (w .line)) p fit-line read eav 2 end-at low struck (omega arith) he refl)
+
+-- buffers of the right lengths, whatever they hold
+blank : Samples
+blank = samplesOf (dueOf (systemOf 0) 0) []
+
+blank-measured : Measured blank
+unfolding blank
+blank-measured = taken-measured (dueOf (systemOf 0) 0) []
+
+-- A. A recording of at most 10,000,000 lines, each code altered in at most one bit, is read to its end: every written sample of every
+-- V = 0 line is returned, and repairs are exactly the altered codes.
+pub recording-reads-back : {system start altered : ℕ} {ps : List Samples} {reads : List (List ℕ)} → freshOf system start .number ≡ 0
+    → Recording system start ps reads altered → length ps ≤ mostLines → (buffers : Samples) → Measured buffers
+    → play (freshOf system start .walk) buffers reads
+      ≡ record { pictures = pictures system start ps; number = 0; place = 0;
+        walk = record { system = system; line = lineAfterAll system start ps; lines = length ps; repairs = altered } }
+unfolding play
+recording-reads-back {system} {start} {altered} {ps} {reads} hf rec hn b m =
+    let f = fresh system start hf in
+    let t = through rec (f .a-system) 0 0 b m [] (f .a-line) (omega arith) (omega arith) in
+    let e : 0 + length ps ≡ length ps = omega arith in
+    let g : 0 + altered ≡ altered = omega arith in
+    ap (λ (w : Walk). play w b reads) (f .walk) ∙ ap (play (at system start 0 0) b) (sym (append-nil reads)) ∙ t .2 ∙ rw (e, g, append-nil)
+
+-- B. Recordings of different samples, damaged so, never coincide: from the same lines read, the same samples were written.
+pub damaged-never-coincide : {system start k l : ℕ} {ps qs : List Samples} {reads : List (List ℕ)} → freshOf system start .number ≡ 0
+    → Recording system start ps reads k → Recording system start qs reads l → length ps ≤ mostLines → length qs ≤ mostLines
+    → pictures system start ps ≡ pictures system start qs
+damaged-never-coincide hf one two hp hq =
+    ap (λ (r : Played). r .pictures)
+    (sym (recording-reads-back hf one hp blank blank-measured) ∙ recording-reads-back hf two hq blank blank-measured)
+
+-- C. Where a code has exactly two of the seven bits inverted and no earlier code more than one, the lines before are returned and that code
+-- is refused with 8 in its place; the walk stands, whatever follows.
+pub two-inverted-refused : {system start altered place : ℕ} {ps : List Samples} {reads : List (List ℕ)} {p : Samples} {read : List ℕ}
+    → freshOf system start .number ≡ 0 → Recording system start ps reads altered → length ps < mostLines
+    → TwoInverted system (lineAfterAll system start ps) p read place
+    → (rest : List (List ℕ)) (buffers : Samples) → Measured buffers
+    → play (freshOf system start .walk) buffers (reads ++ (read ∷ rest))
+      ≡ record { pictures = pictures system start ps; number = 8; place = place;
+        walk = record { system = system; line = lineAfterAll system start ps; lines = length ps; repairs = altered } }
+two-inverted-refused {system} {start} {altered} {place} {ps} {reads} {p} {read} hf rec hn two rest b m =
+    let f = fresh system start hf in
+    let t = through rec (f .a-system) 0 0 b m (read ∷ rest) (f .a-line) (omega arith) (omega arith) in
+    let e : 0 + length ps ≡ length ps = omega arith in
+    let g : 0 + altered ≡ altered = omega arith in
+    let good : Good (at system (lineAfterAll system start ps) (length ps) altered) =
+          record { system = f .a-system; line = line-after-in system start ps (f .a-line); lines = hn; repairs = few rec } in
+    ap (λ (w : Walk). play w b (reads ++ (read ∷ rest))) (f .walk) ∙ t .2
+    ∙ rw (e, g) (ap (after (pictures system start ps)) (stops _ (t .0) read place (two-inverted-line-refused good (t .0) (t .1) two) rest) ∙ rw append-nil)
+
+-- an accepted line is one of a recording: it is what the writer leaves for the samples that it gives, read with its repairs inverted
+module _ (w : Walk) (read : List ℕ) (accepted : Accepted w read) where
+  abbrev pub given : Samples
+  given = samplesOf (dueOf (systemOf (w .system)) (w .line)) read
+
+  pub writable : writeRefusal (w .system) (w .line) given (length read) .number ≡ 0
+  unfolding dueIn dueOf
+  writable =
+      written-samples-fit (w .system) (w .line) given (length read) .1
+      (record {
+        a-system = accepted .good .system;
+        a-line = accepted .good .line;
+        words = accepted .size;
+        fit = accepted-fit (dueOf (systemOf (w .system)) (w .line)) read (accepted .size) (accepted .words-accepted) })
+
+  pub image : Damaged (dueOf (systemOf (w .system)) (w .line)) (lineAfter (w .system) (w .line) given read) read
+      (repairsAt read 3) (repairsAt read (savOffset (systemOf (w .system)) + 3))
+  unfolding dueIn dueOf
+  image =
+      subst (λ (l : List ℕ). Damaged (dueOf (systemOf (w .system)) (w .line)) l read (repairsAt read 3) (repairsAt read (savOffset (systemOf (w .system)) + 3)))
+      (sym (accepted-writes-the-line (w .system) (w .line) given read writable .0))
+      (accepted-image (dueOf (systemOf (w .system)) (w .line)) read (accepted .size) (accepted .words-accepted))
+
+-- where reading a line and more ends well, the line was accepted
+goes-on : (w : Walk) (b : Samples) (read : List ℕ) (rest : List (List ℕ)) → play w b (read ∷ rest) .number ≡ 0 → readAnswer w b read .number ≡ 0
+unfolding play
+goes-on w b read rest z =
+    by-test (eqb (readAnswer w b read .number) 0) (λ t. eqb-true _ _ t)
+    (λ f. absurd (eqb-false _ _ f (sym (ap (λ (r : Played). r .number) (opened (eqb-false _ _ f))) ∙ z)))
+  where
+    opened : (readAnswer w b read .number ≡ 0 → ⊥) → play w b (read ∷ rest) ≡ stoppedBy (readAnswer w b read)
+    opened n = simp (ne-eqb _ _ n)
+
+-- lines that are read through from a walk, with k repairs on the way
+abbrev Image : Walk → List (List ℕ) → Played → Type 0
+Image w reads r =
+    (ps : List Samples) × (k : ℕ) × Recording (w .system) (w .line) ps reads k × (r .walk .repairs ≡ w .repairs + k)
+    × (r .pictures ≡ pictures (w .system) (w .line) ps)
+
+is-image : (w : Walk) (reads : List (List ℕ)) (b : Samples) → Measured b → play w b reads .number ≡ 0 → Image w reads (play w b reads)
+unfolding play
+is-image w [] b m z = ([], 0, end, omega arith, refl)
+is-image w (read ∷ rest) b m z =
+    let answered = goes-on w b read rest z in
+    let accepted = answered-accepted w b read answered in
+    let p = given w read accepted in
+    let e = repairsAt read 3 in
+    let s = repairsAt read (savOffset (systemOf (w .system)) + 3) in
+    let v = vOf (systemOf (w .system)) (w .line) in
+    let he : e ≤ 1 = one-repair (codeReportOf (correctionOf (getD read 3 0))) in
+    let hs : s ≤ 1 = one-repair (codeReportOf (correctionOf (getD read (savOffset (systemOf (w .system)) + 3) 0))) in
+    let written = writable w read accepted in
+    let whole = accepted-writes-the-line (w .system) (w .line) p read written .1 in
+    let size = length (lineAfter (w .system) (w .line) p read) in
+    let low : size ≤ lineLength (systemOf (w .system)) = omega arith in
+    let q = plays-on w (accepted .good) b m p read read e s size written low (image w read accepted) whole he hs rest in
+    let i = is-image (at (w .system) (nextLine (systemOf (w .system)) (w .line)) (w .lines + 1) (w .repairs + (e + s))) rest (readBuffers w b read)
+          (buffers-measured w (accepted .good) b m read answered) (ap (λ (r : Played). r .number) (sym q) ∙ z) in
+    (p ∷ i .0, e + s + i .1, next read written (image w read accepted) he hs (i .2),
+    ap (λ (r : Played). r .walk .repairs) q ∙ i .3 ∙ sums (w .repairs) (e + s) (i .1),
+    ap (λ (r : Played). r .pictures) q ∙ ap (λ (l : List Samples). cond v l (p ∷ l)) (i .4))
+  where
+    sums : (a b c : ℕ) → a + b + c ≡ a + (b + c)
+    sums a b c = omega arith
+
+-- D. Nothing else is ever confirmed: lines that are read through are such an image of the recording that the writer gives for the samples
+-- returned, and repairs are its altered codes.
+pub read-through-is-recording : (system start : ℕ) → freshOf system start .number ≡ 0 → (reads : List (List ℕ)) (buffers : Samples)
+    → Measured buffers → play (freshOf system start .walk) buffers reads .number ≡ 0
+    → (ps : List Samples) × Recording system start ps reads (play (freshOf system start .walk) buffers reads .walk .repairs)
+      × (play (freshOf system start .walk) buffers reads .pictures ≡ pictures system start ps)
+read-through-is-recording system start hf reads b m z =
+    let f = fresh system start hf in
+    let i = is-image (at system start 0 0) reads b m (ap (λ (w : Walk). play w b reads .number) (sym (f .walk)) ∙ z) in
+    let k : i .1 ≡ play (freshOf system start .walk) b reads .walk .repairs =
+          sym (zero-add (i .1)) ∙ sym (i .3) ∙ ap (λ (w : Walk). play w b reads .walk .repairs) (sym (f .walk)) in
+    (i .0, subst (λ (n : ℕ). Recording system start (i .0) reads n) k (i .2),
+    ap (λ (w : Walk). play w b reads .pictures) (f .walk) ∙ i .4)

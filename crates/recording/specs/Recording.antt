@@ -1,0 +1,46 @@
+-- A recording that was written by the rules, damaged within one bit of each code.
+use Prim.Native.Nat.{ℕ, _+_, _≤_}
+use mathlib.Core.Path.{_≡_}
+use mathlib.Core.List.{List, [], _∷_}
+use mathlib.Core.Bool.{cond}
+use lib.ListN.{length}
+use Rattle.system.specs.Figures.{savOffset, activeOffset, vOf, systemOf, nextLine}
+use Rattle.line.specs.Due.{dueOf}
+use Rattle.line.specs.Samples.{Samples}
+use Rattle.line.specs.Damage.{Damaged, DamagedUpTo}
+use Rattle.writer.specs.Write.{writeRefusal, lineAfter}
+
+-- Lines in turn from a line number on. Each is what the writer's call leaves in a buffer for samples that it accepts, read with at most
+-- one of the seven bits of each code inverted and low bits at will. Told are the samples, the lines as read, and the altered codes.
+pub data Recording (system : ℕ) : ℕ → List Samples → List (List ℕ) → ℕ → Type 0 where
+  end : {line : ℕ} → Recording system line [] [] 0
+  next : {line eav sav altered : ℕ} {p : Samples} {read : List ℕ} {ps : List Samples} {reads : List (List ℕ)} (buffer : List ℕ)
+      → writeRefusal system line p (length buffer) .number ≡ 0
+      → Damaged (dueOf (systemOf system) line) (lineAfter system line p buffer) read eav sav
+      → eav ≤ 1 → sav ≤ 1
+      → Recording system (nextLine (systemOf system) line) ps reads altered
+      → Recording system line (p ∷ ps) (read ∷ reads) (eav + sav + altered)
+
+-- the samples of its V = 0 lines
+abbrev pub pictures : ℕ → ℕ → List Samples → List Samples
+pictures system line [] = []
+pictures system line (p ∷ ps) =
+    cond (vOf (systemOf system) line) (pictures system (nextLine (systemOf system) line) ps) (p ∷ pictures system (nextLine (systemOf system) line) ps)
+
+-- the line awaited after it
+abbrev pub lineAfterAll : ℕ → ℕ → List Samples → ℕ
+lineAfterAll system line [] = line
+lineAfterAll system line (p ∷ ps) = lineAfterAll system (nextLine (systemOf system) line) ps
+
+-- A line of which a code has exactly two of the seven bits inverted, and no earlier code of the line more than one, with the offset of
+-- that code's fourth word. What follows that code in the line is anything.
+pub data TwoInverted (system line : ℕ) (p : Samples) (read : List ℕ) : ℕ → Type 0 where
+  in-eav : {sav : ℕ} (buffer : List ℕ)
+      → writeRefusal system line p (length buffer) .number ≡ 0
+      → DamagedUpTo 4 (dueOf (systemOf system) line) (lineAfter system line p buffer) read 2 sav
+      → TwoInverted system line p read 3
+  in-sav : {eav : ℕ} (buffer : List ℕ)
+      → writeRefusal system line p (length buffer) .number ≡ 0
+      → DamagedUpTo (activeOffset (systemOf system)) (dueOf (systemOf system) line) (lineAfter system line p buffer) read eav 2
+      → eav ≤ 1
+      → TwoInverted system line p read (savOffset (systemOf system) + 3)

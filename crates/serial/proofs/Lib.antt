@@ -1,0 +1,10 @@
+pub mod Bits
+pub mod Machine
+pub mod Steps
+pub mod RoundTrip
+pub mod Run
+pub mod Coding
+pub mod Small
+pub mod Refusals
+pub mod Answers
+pub mod Theorems

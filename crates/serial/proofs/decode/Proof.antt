@@ -1,0 +1,59 @@
+-- `decode` meets its contract: it refuses before the first store, and otherwise runs from the state held. Assumes nothing.
+use borrow.Author.Needs.{needs}
+use mathlib.Core.Path.{_≡_, sym, ap, _∙_}
+use lib.ListN.{length}
+use Rattle.refusal.specs.declared.Refusal.{Refusal}
+use Rattle.serial.specs.Calls.{serialRefusal, decodeAnswer, decodeOutput}
+use Rattle.serial.proofs.Steps.{decode, afterDecode}
+use Rattle.serial.proofs.Refusals.{accepted}
+use Rattle.serial.proofs.Answers.{refuses, runs}
+use Rattle.serial.proofs.decode.Statement.{statement}
+use Rattle.serial.proofs.decode.Tie as tie
+
+-- past the refusal, its number is 0
+number-0 : (c : tie.Else1)
+    → let a = c .before .before .before .before .before .args in serialRefusal (a .state) (a .words .now) (length (a .out .now)) .number ≡ 0
+number-0 c = sym (ap (λ (r : Refusal). r .number) (c .before .before .refusal-of .ensures)) ∙ c .if1 .left
+
+refusal-of-requires : tie.Need-refusal-of-requires
+refusal-of-requires c κs = search needs
+
+refused-requires : tie.Need-refused-requires
+refused-requires c κs = search needs
+
+returns : tie.Need-returns
+unfolding decodeAnswer decodeOutput
+returns c =
+    let no = c .before in
+    let a = no .before .before .before .before .before .args in
+    refuses decode afterDecode (a .state) (a .words .now) (a .out .now) (no .before .before .refusal-of .ensures) (no .if1 .taken) (c .refused .ensures)
+
+hold-requires : tie.Need-hold-requires
+hold-requires c κs =
+    let a = accepted _ _ _ (number-0 c) in
+    (a .nine, a .one)
+
+decode-words-requires : tie.Need-decode-words-requires
+decode-words-requires c κs =
+    let a = accepted _ _ _ (number-0 (c .before .before)) in
+    (c .before .hold .ensures .1, record { small = a .small; room = a .same })
+
+accepted-requires : tie.Need-accepted-requires
+accepted-requires c κs = search needs
+
+same-length : tie.Need-same-length
+same-length c = search needs
+
+returns-2 : tie.Need-returns-2
+unfolding decodeAnswer decodeOutput
+returns-2 c =
+    let ran = c .before .before .before in
+    let begun = ran .before .before in
+    let a = begun .before .before .before .before .before .before .args in
+    runs decode afterDecode (a .state) (a .words .now) (a .out .now) (begun .hold .result) (ran .decode-words .result)
+    (number-0 (begun .before)) (begun .hold .ensures .0) (ran .decode-words .ensures .0) (ran .decode-words .ensures .1 .0) (c .accepted .ensures)
+
+pub decode-spec : {M : Type 1} → statement M
+decode-spec =
+    tie.close
+    (tie.spec refusal-of-requires refused-requires returns hold-requires decode-words-requires accepted-requires same-length returns-2)

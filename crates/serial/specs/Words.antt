@@ -1,0 +1,7 @@
+-- Words of ten bits.
+use Prim.Native.Nat.{ℕ, _≤_}
+use mathlib.Core.List.{List, [], _∷_}
+
+pub data Words : List ℕ → Type 0 where
+  none : Words []
+  more : {w : ℕ} {ws : List ℕ} → w ≤ 1023 → Words ws → Words (w ∷ ws)

@@ -1,0 +1,7 @@
+pub mod Bools
+pub mod Orders
+pub mod Places
+pub mod Puts
+pub mod Whole
+pub mod Laws
+pub mod Theorems

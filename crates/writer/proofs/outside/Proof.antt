@@ -1,0 +1,16 @@
+-- `writer::outside` meets its contract, test by test. Assumes nothing.
+use borrow.Author.Tests.{lt-ltb, le-ltb}
+use borrow.Author.Needs.{needs}
+use Rattle.writer.proofs.outside.Statement.{statement}
+use Rattle.writer.proofs.outside.Tie as tie
+use Rattle.writer.proofs.outside.Reads as reads
+use Rattle.writer.proofs.outside.Lts as lts
+
+returns : tie.Need-returns
+returns c = simp (lt-ltb _ _ (c .if1 .taken))
+
+returns-2 : tie.Need-returns-2
+returns-2 c = simp (le-ltb _ _ (c .if1 .left))
+
+pub outside-spec : {M : Type 1} → statement M
+outside-spec = tie.close (tie.spec returns returns-2)

@@ -1,0 +1,4 @@
+pub mod Write
+pub mod Refusals
+pub mod Fit
+pub mod Passes

@@ -1,0 +1,31 @@
+-- What the writer's own passes over buffers, and over the parts of a line, leave: for the contracts of its private functions.
+use Prim.Native.Nat.{ℕ, _-_, _<_, _≤_}
+use mathlib.Core.Path.{_≡_}
+use mathlib.Core.List.{List}
+use lib.ListN.{length, getD}
+use Rattle.line.specs.declared.Due.{Due}
+use Rattle.line.specs.Due.{codeAt, fillAt}
+use Rattle.line.specs.Fault.{leastSample, mostSample}
+use Rattle.line.specs.Samples.{Samples, sampleAt, wordWhere}
+
+-- each word of a buffer is a sample
+abbrev pub AllSamples : List ℕ → Type 0
+AllSamples l = (k : ℕ) → k < length l → (leastSample ≤ getD l k 0) × (getD l k 0 ≤ mostSample)
+
+-- what stores from one offset up to another leave: the words below as they were, and these words there
+pub record Put (word : ℕ → ℕ) (from to : ℕ) (before after : List ℕ) : Type 0 where
+  pub size : length after ≡ length before
+  pub kept : (i : ℕ) → i < from → getD after i 0 ≡ getD before i 0
+  pub there : (i : ℕ) → i < to → from ≤ i → getD after i 0 ≡ word i
+
+-- the words of a timing code that starts at an offset; no sample is due there, and 0 stands for it
+abbrev pub codeWord : ℕ → ℕ → ℕ → ℕ
+codeWord fvh at i = wordWhere (codeAt fvh (i - at)) 0
+
+-- the words of fill
+abbrev pub fillWord : Due → ℕ → ℕ
+fillWord d i = wordWhere (fillAt d i) 0
+
+-- the words of an active part that starts at an offset
+abbrev pub activeWord : Samples → ℕ → ℕ → ℕ
+activeWord p at i = sampleAt p (i - at)
