@@ -93,13 +93,13 @@ small-bytes w bytes =
     small-orElse (walkRefusal w) _ (small-walk w)
     (by-test (eqb (length bytes) (2 * lineLength (systemOf (w .system))))
     (λ t.
-      let size = eqb-true (length bytes) (2 * lineLength (systemOf (w .system))) t in
-      let short : length (wordsOf bytes) < 65536 =
-            omega (arith, length-tab (λ k. wordOfBytes bytes (2 * k)) (length bytes / 2), line-short (systemOf (w .system))) in
-      small-orElse _ _ (small-refuse (not (eqb (length bytes) (2 * lineLength (systemOf (w .system))))) 3 (omega arith) (λ z. omega arith))
-      (small-orElse (wordRefusal (dueIn w (wordsOf bytes)) (wordsOf bytes)) none (small-words (dueIn w (wordsOf bytes)) (wordsOf bytes) short) small-none))
+    let size = eqb-true (length bytes) (2 * lineLength (systemOf (w .system))) t in
+    let short : length (wordsOf bytes) < 65536 =
+    omega (arith, length-tab (λ k. wordOfBytes bytes (2 * k)) (length bytes / 2), line-short (systemOf (w .system))) in
+    small-orElse _ _ (small-refuse (not (eqb (length bytes) (2 * lineLength (systemOf (w .system))))) 3 (omega arith) (λ z. omega arith))
+    (small-orElse (wordRefusal (dueIn w (wordsOf bytes)) (wordsOf bytes)) none (small-words (dueIn w (wordsOf bytes)) (wordsOf bytes) short) small-none))
     (λ f. rw f (subst Small (sym (orElse-refused (record { number = 3; place = 0 }) _ (λ z. omega arith)))
-      (record { number = omega arith; place = omega arith; accepted = λ e. refl }))))
+    (record { number = omega arith; place = omega arith; accepted = λ e. refl }))))
 
 -- an accepted line's repairs are
 pub repairs-low : (r : Report) → repairsOf r < 65536

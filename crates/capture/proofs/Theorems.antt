@@ -19,7 +19,7 @@ use Rattle.timing.specs.Report.{repairsOf}
 use Rattle.system.specs.declared.Walk.{Walk}
 use Rattle.lent.specs.Bytes.{judgedBytes}
 use Rattle.lent.specs.Refusals.{bytesRefusals}
-use Rattle.lent.proofs.Theorems.{bytes-exact, bytes-answer}
+use Rattle.lent.proofs.Theorems.{bytes-exact, bytes-number}
 use Rattle.capture.specs.Answer.{answered, correctedOf, correctAnswer, judgeAnswer}
 use Rattle.capture.proofs.Bounds.{Small, small-bytes, repairs-low}
 
@@ -65,9 +65,9 @@ pub capture-judge-exact : (w : Walk) (bytes : List ℕ) → Keeps (bytesRefusals
 unfolding judgeAnswer
 capture-judge-exact w bytes =
     let told : Refusal = record { number = judgedBytes w bytes .number; place = judgedBytes w bytes .place } in
-    let small = subst Small (sym (bytes-answer w bytes)) (small-bytes w bytes) in
+    let small = subst Small (sym (bytes-number w bytes)) (small-bytes w bytes) in
     subst (Keeps (bytesRefusals w bytes)) (answer-tells told (repairsOf (judgedBytes w bytes .report)) (repairs-low (judgedBytes w bytes .report)) (small .place) (small .accepted))
-    (subst (Keeps (bytesRefusals w bytes)) (sym (bytes-answer w bytes)) (bytes-exact w bytes))
+    (subst (Keeps (bytesRefusals w bytes)) (sym (bytes-number w bytes)) (bytes-exact w bytes))
 
 -- An accepted line answers its repairs, and they are at most 2.
 pub capture-judge-repairs : (w : Walk) (bytes : List ℕ) → judgedBytes w bytes .number ≡ 0 → judgeAnswer w bytes ≡ repairsOf (judgedBytes w bytes .report)

@@ -39,7 +39,10 @@ fn follow_ready(run: Run, buffer: &[u8], at: usize, have: usize) -> Reached
 {
     let followed = run.follow(&buffer[at..have]);
     let next = followed.run;
-    Reached { run: next, at: at + followed.taken }
+    Reached {
+        run: next,
+        at: at + followed.taken,
+    }
 }
 
 // Reads once and follows the run over what lies ready; at the end of the input, closes the run. A failed read is not the end.
@@ -52,18 +55,42 @@ fn turn(run: Run, at: usize, have: usize, buffer: &mut [u8]) -> Input
     let more = io::count(got, &buffer[have..]);
     if more == 0 {
         if got < 0 {
-            return Input { run, at, have, is_open: false, is_failed: true };
+            return Input {
+                run,
+                at,
+                have,
+                is_open: false,
+                is_failed: true,
+            };
         }
         let closed = run.close(&buffer[at..have]);
-        return Input { run: closed, at, have, is_open: false, is_failed: false };
+        return Input {
+            run: closed,
+            at,
+            have,
+            is_open: false,
+            is_failed: false,
+        };
     }
     let full = have + more;
     let reached = follow_ready(run, buffer, at, full);
     let next = reached.run;
     if reached.at == size {
-        return Input { run: next, at: 0, have: 0, is_open: next.number == 0, is_failed: false };
+        return Input {
+            run: next,
+            at: 0,
+            have: 0,
+            is_open: next.number == 0,
+            is_failed: false,
+        };
     }
-    Input { run: next, at: reached.at, have: full, is_open: next.number == 0, is_failed: false }
+    Input {
+        run: next,
+        at: reached.at,
+        have: full,
+        is_open: next.number == 0,
+        is_failed: false,
+    }
 }
 
 // How far the run is, on one line of a terminal.
@@ -78,7 +105,13 @@ fn show(run: Run) {
 // Follows the run to the end of the input or its first refusal. A proved loop has to end, and nothing says that the input does: the
 // turns count down from a number that no run uses up.
 fn follow(run: Run, buffer: &mut [u8], is_shown: bool) -> Input {
-    let mut input = Input { run, at: 0, have: 0, is_open: true, is_failed: false };
+    let mut input = Input {
+        run,
+        at: 0,
+        have: 0,
+        is_open: true,
+        is_failed: false,
+    };
     let mut turns = u64::MAX;
     while turns > 0 && input.is_open {
         input = turn(input.run, input.at, input.have, buffer);
@@ -105,11 +138,17 @@ fn fill(buffer: &mut [u8]) -> Header
         let got = libc::read(STDIN_FILENO, &mut buffer[have..]);
         let more = io::count(got, &buffer[have..]);
         if more == 0 {
-            return Header { have, is_failed: got < 0 };
+            return Header {
+                have,
+                is_failed: got < 0,
+            };
         }
         have += more;
     }
-    Header { have, is_failed: false }
+    Header {
+        have,
+        is_failed: false,
+    }
 }
 
 fn say(name: &[u8], number: u64) {

@@ -1,6 +1,6 @@
 -- What the judgement of a line's bytes is, refusal by refusal, and where the fast pass finds it well. Assumes nothing.
 use Prim.Native.Nat.{ℕ, _+_, _*_, _<_, _≤_}
-use mathlib.Core.Path.{_≡_, ap, _∙_}
+use mathlib.Core.Path.{_≡_, sym, ap, _∙_}
 use mathlib.Core.List.{List}
 use native.Mathlib.Omega.{arith}
 use lib.ListN.{length}
@@ -19,11 +19,12 @@ use Rattle.system.proofs.Laws.{line-is-parts, accepted-good, stepped-advanced}
 use Rattle.line.specs.declared.Due.{Due}
 use Rattle.line.specs.Due.{dueOf}
 use Rattle.line.specs.Fault.{faultAt, wordRefusal}
-use Rattle.reader.specs.Judge.{dueIn, reportOf, refusedAt, judgementOf}
+use Rattle.reader.specs.Judge.{dueIn, reportOf, refusedAt}
 use Rattle.lent.specs.declared.pass.Codes.{Codes}
 use Rattle.lent.specs.Bytes.{wordsOf, bytesRefusal, judgedBytes}
 use Rattle.lent.specs.Passes.{LineBytes, Corrected, LineWell}
 use Rattle.lent.proofs.Bytes.{words-length, word-at}
+use Rattle.lent.proofs.Theorems.{bytes-refused-stands, bytes-accepted-advances}
 
 -- the room for a line's words is that of the longer line
 pub longest : (s : System) → lineLength s ≤ lineLength Lines625
@@ -44,8 +45,7 @@ module _ (w : Walk) (bytes : List ℕ) where
 
   -- a refusal that has its turn is the answer
   refused : (r : Refusal) → bytesRefusal w bytes ≡ r → (r .number ≡ 0 → ⊥) → judgedBytes w bytes ≡ refusedAt w r
-  unfolding judgedBytes judgementOf
-  refused r e n = rw (e, ne-eqb _ _ n)
+  refused r e n = bytes-refused-stands w bytes (λ z. n (ap (λ (a : Refusal). a .number) (sym e) ∙ z)) ∙ ap (refusedAt w) e
 
   -- the walk refuses every line
   pub judged-walk : (walkRefusal w .number ≡ 0 → ⊥) → judgedBytes w bytes ≡ refusedAt w (walkRefusal w)
@@ -85,7 +85,7 @@ module _ (w : Walk) (bytes : List ℕ) where
       pub judged-well : (report : Report) → report ≡ record { eav = codeReportOf (codes .eav); sav = codeReportOf (codes .sav) }
           → Corrected d bytes codes → LineWell d bytes
           → judgedBytes w bytes ≡ record { number = 0; place = 0; report = report; walk = steppedOf w report }
-      unfolding judgedBytes judgementOf
       judged-well report e told well =
           let whole = e ∙ reported told in
-          rw (whole, accepted well, stepped-advanced w _ (accepted-good w stands))
+          bytes-accepted-advances w bytes (ap (λ (a : Refusal). a .number) (accepted well))
+          ∙ rw (whole, stepped-advanced w _ (accepted-good w stands))

@@ -21,7 +21,7 @@ use Rattle.system.proofs.Theorems.{walk-exact, walk-decides}
 use Rattle.line.specs.Fault.{wordRefusal}
 use Rattle.line.proofs.Theorems.{words-exact, words-decide}
 use Rattle.reader.specs.declared.Judgement.{Judgement}
-use Rattle.reader.specs.Judge.{dueIn, readRefusal, reportOf, judgementOf, judgedOf}
+use Rattle.reader.specs.Judge.{dueIn, readRefusal, reportOf, refusedAt, acceptedAt, judgementOf, judgedOf}
 use Rattle.lent.specs.Bytes.{wordsOf, bytesRefusal, judgedBytes}
 use Rattle.lent.specs.Refusals.{bytesRefusals}
 use Rattle.lent.proofs.Bytes.{words-length}
@@ -57,10 +57,10 @@ module _ (w : Walk) (bytes : List ℕ) where
       (λ t. eqb-false (length bytes) size (not-true _ t)) (λ ne. ap not (ne-eqb (length bytes) size ne)) (λ z. omega arith))
       (keeps-last _ (wordRefusal (dueIn w (wordsOf bytes)) (wordsOf bytes)) (words-exact (dueIn w (wordsOf bytes)) (wordsOf bytes))))
 
-  -- What is refused is the answer: its number and place are the refusal's.
-  pub bytes-answer : record { number = judgedBytes w bytes .number; place = judgedBytes w bytes .place } ≡ bytesRefusal w bytes
+  -- The answer's number and place are that refusal's.
+  pub bytes-number : record { number = judgedBytes w bytes .number; place = judgedBytes w bytes .place } ≡ bytesRefusal w bytes
   unfolding judgedBytes judgementOf
-  bytes-answer =
+  bytes-number =
       by-test (eqb (bytesRefusal w bytes .number) 0)
       (λ t. simp t (sym (⊎-elim (λ k. absurd (k .1 (eqb-true _ _ t))) (λ k. k .1) bytes-exact)))
       (λ f. simp f)
@@ -70,6 +70,15 @@ module _ (w : Walk) (bytes : List ℕ) where
       decides-before _ _ (walk-decides w)
       (decides-before _ _ (decides-when (length bytes ≡ 2 * lineLength (systemOf (w .system)) → ⊥) 3 0)
       (words-decide (dueIn w (wordsOf bytes)) (wordsOf bytes)))
+
+  -- ---- A refused line leaves the walk standing and is told as clean; an accepted one advances it by its report.
+  pub bytes-refused-stands : (bytesRefusal w bytes .number ≡ 0 → ⊥) → judgedBytes w bytes ≡ refusedAt w (bytesRefusal w bytes)
+  unfolding judgedBytes judgementOf
+  bytes-refused-stands n = simp (ne-eqb _ _ n)
+
+  pub bytes-accepted-advances : bytesRefusal w bytes .number ≡ 0 → judgedBytes w bytes ≡ acceptedAt w (reportOf (dueIn w (wordsOf bytes)) (wordsOf bytes))
+  unfolding judgedBytes judgementOf
+  bytes-accepted-advances e = simp (eq-eqb _ _ e)
 
   -- ---- Two results allowed for one input are the same.
   pub bytes-one-result : (r s : Judgement) → r ≡ judgedBytes w bytes → s ≡ judgedBytes w bytes → r ≡ s

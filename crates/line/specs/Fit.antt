@@ -13,7 +13,11 @@ pub record Measured (p : Samples) : Type 0 where
   pub cb : length (p .cb) ≡ cLength
   pub cr : length (p .cr) ≡ cLength
 
+-- "A sample is 4 to 1019": the sample at each place of the active part
+abbrev pub Inside : Samples → Type 0
+Inside p = (place : ℕ) → place < activeLength → (leastSample ≤ sampleAt p place) × (sampleAt p place ≤ mostSample)
+
 -- the samples fit the line: their lengths, and where V is 0 each is from 4 to 1019
 pub record Fit (d : Due) (p : Samples) : Type 0 where
   pub lengths : Measured p
-  pub range : d .v ≡ false → (place : ℕ) → place < activeLength → (leastSample ≤ sampleAt p place) × (sampleAt p place ≤ mostSample)
+  pub range : d .v ≡ false → Inside p

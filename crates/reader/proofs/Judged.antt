@@ -29,6 +29,7 @@ same-length m n place e = by-test (eqb m n) (λ t. eqb-true _ _ t) (λ f. absurd
     never : _≡_ {A = ℕ} 3 0 → ⊥
     never q = omega arith
 
+-- what is known of sample buffers that are not refused
 pub record Lengths (y cb cr : ℕ) : Type 0 where
   pub ys : y ≡ yLength
   pub cbs : cb ≡ cLength
@@ -86,6 +87,7 @@ module _ (buffers : Refusal) (w : Walk) (words : List ℕ) where
   pub accepted-is-none : readRefusal buffers w words .number ≡ 0 → readRefusal buffers w words ≡ none
   accepted-is-none e = let a = accepted e in read-none (a .walk) (a .size) (a .lengths) (a .well)
 
+  -- the line is long enough for its active part
   pub active-fits : readRefusal buffers w words .number ≡ 0 → activeOffset (systemOf (w .system)) + activeLength ≤ length words
   active-fits e = omega (arith, accepted e .size, line-is-parts (systemOf (w .system)))
 
@@ -98,6 +100,7 @@ module _ (buffers : Refusal) (w : Walk) (words : List ℕ) where
   unfolding judgedOf judgementOf
   judged-accepted e = simp (eq-eqb _ _ e)
 
+  -- a call's answer has the refusal's number
   pub answered : (j : Judgement) → j ≡ judgedOf buffers w words → j .number ≡ readRefusal buffers w words .number
   answered j e =
       ap (λ (i : Judgement). i .number) e

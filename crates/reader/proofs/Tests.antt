@@ -12,7 +12,7 @@ pub cond-not : (t : Bool) (a b : ℕ) → cond (not t) a b ≡ cond t b a
 cond-not true a b = refl
 cond-not false a b = refl
 
-and-true : (a b : Bool) → (a && b) ≡ true → (a ≡ true) × (b ≡ true)
+pub and-true : (a b : Bool) → (a && b) ≡ true → (a ≡ true) × (b ≡ true)
 and-true true b e = (refl, e)
 and-true false b e = (e, cc)
 

@@ -52,18 +52,20 @@ abbrev pub noRows : Row
 noRows r = ⊥
 
 module _ (w : Walk) (words : List ℕ) where
-  -- So do judging and asking for the active part, which have no sample buffers ..
+  -- Judging, and asking for the active part, keep to the table without rows for sample buffers ..
   pub judge-call-exact : Keeps (readRefusals noRows w words) (readRefusal none w words)
   judge-call-exact = read-exact noRows none w words (inr (λ r q. q, refl))
 
+  -- .. which leaves one answer.
   pub judge-call-decides : Decides (readRefusals noRows w words)
   judge-call-decides = read-decides noRows w words (λ r s x y. absurd x)
 
-  -- .. and reading, with its three.
   module _ (y cb cr : ℕ) where
+    -- Reading keeps to the table with the rows of its three buffers ..
     pub read-call-exact : Keeps (readRefusals (bufferRefusals y cb cr) w words) (readRefusal (bufferRefusal y cb cr) w words)
     read-call-exact = read-exact (bufferRefusals y cb cr) (bufferRefusal y cb cr) w words (buffer-exact y cb cr)
 
+    -- .. which leaves one answer.
     pub read-call-decides : Decides (readRefusals (bufferRefusals y cb cr) w words)
     read-call-decides = read-decides (bufferRefusals y cb cr) w words (buffer-decides y cb cr)
 
@@ -122,16 +124,20 @@ module _ (w : Walk) (words : List ℕ) where
 
 -- ---- Two results that a contract allows for one input are the same.
 
+-- Of the answer to a refused line.
 pub refused-one-result : (w : Walk) (refusal : Refusal) (r s : Judgement) → r ≡ refusedAt w refusal → s ≡ refusedAt w refusal → r ≡ s
 refused-one-result w refusal r s e f = e ∙ sym f
 
+-- Of the answer to an accepted line.
 pub accepted-one-result : (w : Walk) (report : Report) (r s : Judgement) → r ≡ record { number = 0; place = 0; report = report; walk = steppedOf w report }
     → s ≡ record { number = 0; place = 0; report = report; walk = steppedOf w report } → r ≡ s
 accepted-one-result w report r s e f = e ∙ sym f
 
+-- Of judging.
 pub judge-one-result : (w : Walk) (words : List ℕ) (r s : Judgement) → r ≡ judgedOf none w words → s ≡ judgedOf none w words → r ≡ s
 judge-one-result w words r s e f = e ∙ sym f
 
+-- Of the active part.
 pub active-one-result : (w : Walk) (words r s : List ℕ) → r ≡ activeOf w words → s ≡ activeOf w words → r ≡ s
 active-one-result w words r s e f = e ∙ sym f
 
@@ -142,6 +148,7 @@ pub record Read (w : Walk) (words y cb cr : List ℕ) (r : Judgement) (y-after c
   pub cbs : cb-after ≡ bufferAfter r (dueIn w words) (cbsFrom (activeOffset (systemOf (w .system))) words) cb
   pub crs : cr-after ≡ bufferAfter r (dueIn w words) (crsFrom (activeOffset (systemOf (w .system))) words) cr
 
+-- Of reading: the judgement and every word of the three buffers.
 pub read-one-result : (w : Walk) (words y cb cr : List ℕ) (r s : Judgement) (y-r cb-r cr-r y-s cb-s cr-s : List ℕ)
     → Read w words y cb cr r y-r cb-r cr-r → Read w words y cb cr s y-s cb-s cr-s → (r ≡ s) × (y-r ≡ y-s) × (cb-r ≡ cb-s) × (cr-r ≡ cr-s)
 read-one-result w words y cb cr r s y-r cb-r cr-r y-s cb-s cr-s a b =

@@ -8,7 +8,8 @@ use lib.ListN.{getD}
 use Rattle.system.specs.declared.System.{System}
 use Rattle.system.specs.Figures.{lineLength, savOffset, activeOffset}
 use Rattle.line.specs.declared.Due.{Due}
-use Rattle.line.specs.Fault.{leastSample, mostSample, faultAt}
+use Rattle.line.specs.Due.{codeAt}
+use Rattle.line.specs.Fault.{leastSample, mostSample, faultWhere}
 use Rattle.line.specs.Samples.{activeLength}
 
 -- "EAV, blanking between, SAV, active part", from 0; the fifth is where the line ends
@@ -17,9 +18,9 @@ partStart s part =
     cond (eqb part 0) 0
     (cond (eqb part 1) 4 (cond (eqb part 2) (savOffset s) (cond (eqb part 3) (activeOffset s) (lineLength s))))
 
--- each of n words from an offset has no fault
-abbrev pub Well : Due → List ℕ → ℕ → ℕ → Type 0
-Well d words from n = (k : ℕ) → k < n → faultAt d words (from + k) ≡ 0
+-- the four words from an offset have no fault as the timing code of these F, V, H
+abbrev pub CodeWell : ℕ → List ℕ → ℕ → Type 0
+CodeWell fvh words from = (k : ℕ) → k < 4 → faultWhere (codeAt fvh k) (getD words (from + k) 0) ≡ 0
 
 -- each of n pairs of words from an offset is these two
 abbrev pub Filled : ℕ → ℕ → List ℕ → ℕ → ℕ → Type 0

@@ -7,14 +7,15 @@ ghost use lib.ListN.{length};
 ghost use Rattle.system.specs.Figures.{lineLength};
 ghost use Rattle.line.specs.Fault.{faultAt, wordRefusal};
 ghost use Rattle.line.specs.Samples.{activeLength};
-ghost use Rattle.reader.specs.Passes.{Well, Filled, Sampled, ActiveWell};
+ghost use Rattle.reader.specs.Passes.{CodeWell, Filled, Sampled, ActiveWell};
 use crate::ACTIVE_LENGTH;
 use crate::active_offset;
 use crate::fault::MOST_WORD;
-use crate::fault::fault_at;
+use crate::fault::fault;
 use crate::fault::reserved;
 use crate::scan::scan;
 use line::Due;
+use line::What;
 use refusal::Refusal;
 
 // Two words as one number, which the processor compares at once.
@@ -50,18 +51,17 @@ fn all_samples(words: &[u16], from: usize) -> bool
     well
 }
 
-// Whether the timing code at an offset has no fault. It is judged word by word, so that a line with a repaired code stays quick.
-fn code_well(d: Due, words: &[u16], from: usize) -> bool
+// Whether the timing code of these F, V, H stands at an offset without a fault. Each word is judged as the scan does, so that a line
+// with a repaired code stays quick.
+fn code_well(words: &[u16], from: usize, fvh: u32) -> bool
     requires { ⌜ from + 4 ≤ length (now words) ⌝ }
-    ensures { λ r. ⌜ (r ≡ true → Well d (now (words .entry)) from 4) ⌝ }
+    ensures { λ r. ⌜ (r ≡ true → CodeWell fvh (now (words .entry)) from) ⌝ }
 {
-    for k in 0..4usize {
-        let offset = from + k;
-        if fault_at(d, offset, words[offset]) != 0 {
-            return false;
-        }
-    }
-    true
+    let first = fault(What::Ones, words[from]);
+    let second = fault(What::Zeros, words[from + 1]);
+    let third = fault(What::Zeros, words[from + 2]);
+    let fourth = fault(What::Fourth { fvh }, words[from + 3]);
+    (first == 0) & (second == 0) & (third == 0) & (fourth == 0)
 }
 
 // Whether the active part is fill, on a line with V = 1, or samples.
@@ -90,13 +90,13 @@ fn all_well(d: Due, words: &[u16]) -> bool
     }
     let system = d.system;
     let sav = system.sav_offset();
-    if !code_well(d, words, 0) {
+    if !code_well(words, 0, d.flags(true)) {
         return false;
     }
     if !filled(words, 4, (sav - 4) / 2, d.even, d.odd) {
         return false;
     }
-    if !code_well(d, words, sav) {
+    if !code_well(words, sav, d.flags(false)) {
         return false;
     }
     active_well(d, words)

@@ -3,3 +3,4 @@ pub mod Lines
 pub mod Theorems
 pub mod PerLine
 pub mod Samples
+pub mod Confirmed

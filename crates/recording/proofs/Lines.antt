@@ -46,9 +46,9 @@ proper system line = record { even = omega arith; odd = omega arith }
 
 -- ---- one line of a recording, as it is read
 module _ (w : Walk) (good : Good w) (b : Samples) (m : Measured b) (p : Samples) (buffer read : List ℕ) (e s end-at : ℕ)
-  (written : writeRefusal (w .system) (w .line) p (length buffer) .number ≡ 0)
-  (low : end-at ≤ lineLength (systemOf (w .system)))
-  (dam : DamagedUpTo end-at (dueOf (systemOf (w .system)) (w .line)) (lineAfter (w .system) (w .line) p buffer) read e s) where
+    (written : writeRefusal (w .system) (w .line) p (length buffer) .number ≡ 0)
+    (low : end-at ≤ lineLength (systemOf (w .system)))
+    (dam : DamagedUpTo end-at (dueOf (systemOf (w .system)) (w .line)) (lineAfter (w .system) (w .line) p buffer) read e s) where
   abbrev pub due : Due
   due = dueOf (systemOf (w .system)) (w .line)
 
@@ -123,12 +123,12 @@ module _ (w : Walk) (good : Good w) (b : Samples) (m : Measured b) (p : Samples)
         by-test (vOf (systemOf (w .system)) (w .line))
         (λ v. simp v)
         (λ v. ap (λ (q : Samples). andThen (vOf (systemOf (w .system)) (w .line)) q rest)
-          (samples-returned v))
+        (samples-returned v))
 
     -- so playing goes on behind the line
     pub plays-on : (rest : List (List ℕ)) → play w b (read ∷ rest)
         ≡ andThen (vOf (systemOf (w .system)) (w .line)) p
-          (play (at (w .system) (nextLine (systemOf (w .system)) (w .line)) (w .lines + 1) (w .repairs + (e + s))) (readBuffers w b read) rest)
+        (play (at (w .system) (nextLine (systemOf (w .system)) (w .line)) (w .lines + 1) (w .repairs + (e + s))) (readBuffers w b read) rest)
     unfolding play
     plays-on rest =
         simp (eq-eqb _ _ line-accepted)

@@ -27,7 +27,7 @@ use Rattle.reader.specs.Judge.{dueIn, readRefusal, reportOf, acceptedAt, refuse
 use Rattle.recording.specs.Play.{readAnswer, readBuffers}
 
 -- buffers of the right lengths refuse nothing
-measured-accepted : (b : Samples) → Measured b → bufferRefusal (length (b .y)) (length (b .cb)) (length (b .cr)) ≡ none
+pub measured-accepted : (b : Samples) → Measured b → bufferRefusal (length (b .y)) (length (b .cb)) (length (b .cr)) ≡ none
 unfolding bufferRefusal orElse
 measured-accepted b m = simp (eq-eqb _ _ (m .y), eq-eqb _ _ (m .cb), eq-eqb _ _ (m .cr))
 
@@ -96,7 +96,8 @@ answered-accepted w b words e =
     record {
       good = accepted-good w (first .0);
       size = measured (eqb (length words) (lineLength (systemOf (w .system)))) refl (second .0);
-      words-accepted = fourth .0 }
+      words-accepted = fourth .0;
+    }
   where
     measured : (t : Bool) → eqb (length words) (lineLength (systemOf (w .system))) ≡ t
         → lengthRefusal (systemOf (w .system)) (length words) .number ≡ 0 → length words ≡ lineLength (systemOf (w .system))

@@ -32,45 +32,51 @@ module _ (w : Walk) (good : Good w) (b : Samples) (m : Measured b) where
       → writeRefusal (w .system) (w .line) p (length buffer) .number ≡ 0
       → Damaged (dueOf (systemOf (w .system)) (w .line)) (lineAfter (w .system) (w .line) p buffer) read eav sav → eav ≤ 1 → sav ≤ 1
       → (readAnswer w b read
-        ≡ acceptedAt w
-          (record {
-            eav = toldOf (flagsOf (dueOf (systemOf (w .system)) (w .line)) true) (getD read 3 0);
-            sav = toldOf (flagsOf (dueOf (systemOf (w .system)) (w .line)) false) (getD read (savOffset (systemOf (w .system)) + 3) 0) }))
-        × (vOf (systemOf (w .system)) (w .line) ≡ false → readBuffers w b read ≡ p)
+      ≡ acceptedAt w
+      (record {
+        eav = toldOf (flagsOf (dueOf (systemOf (w .system)) (w .line)) true) (getD read 3 0);
+        sav = toldOf (flagsOf (dueOf (systemOf (w .system)) (w .line)) false) (getD read (savOffset (systemOf (w .system)) + 3) 0);
+      }))
+      × (vOf (systemOf (w .system)) (w .line) ≡ false → readBuffers w b read ≡ p)
   damaged-line-reads-back p buffer read eav sav written dam he hs =
       let whole = accepted-writes-the-line (w .system) (w .line) p buffer written .1 in
       let size = length (lineAfter (w .system) (w .line) p buffer) in
-      let low : size ≤ lineLength (systemOf (w .system)) = omega arith in
-      (line-read w good b m p buffer read eav sav size written low dam whole he hs
-      ∙ ap (acceptedAt w) (reported w good b m p buffer read eav sav size written low dam whole he hs),
-      samples-returned w good b m p buffer read eav sav size written low dam whole he hs)
+      let low : size ≤ lineLength (systemOf (w .system)) = omega arith in (
+        line-read w good b m p buffer read eav sav size written low dam whole he hs
+            ∙ ap (acceptedAt w) (reported w good b m p buffer read eav sav size written low dam whole he hs),
+        samples-returned w good b m p buffer read eav sav size written low dam whole he hs,
+      )
 
   -- Reading back a written line: accepted, both codes told as clean, and the samples are the written ones.
   pub written-line-reads-back : (p : Samples) (buffer : List ℕ) → writeRefusal (w .system) (w .line) p (length buffer) .number ≡ 0
       → (readAnswer w b (lineAfter (w .system) (w .line) p buffer) ≡ acceptedAt w cleanReport)
-        × (vOf (systemOf (w .system)) (w .line) ≡ false → readBuffers w b (lineAfter (w .system) (w .line) p buffer) ≡ p)
+      × (vOf (systemOf (w .system)) (w .line) ≡ false → readBuffers w b (lineAfter (w .system) (w .line) p buffer) ≡ p)
   written-line-reads-back p buffer written =
       let d = dueOf (systemOf (w .system)) (w .line) in
       let line = lineAfter (w .system) (w .line) p buffer in
       let is-line = accepted-writes-the-line (w .system) (w .line) p buffer written .0 in
       let whole = accepted-writes-the-line (w .system) (w .line) p buffer written .1 in
       let low : length line ≤ lineLength (systemOf (w .system)) = omega arith in
-      let itself : Damaged d line line 0 0 = subst (λ (l : List ℕ). Damaged d l l 0 0) (sym is-line) (undamaged d p) in
-      (line-read w good b m p buffer line 0 0 (length line) written low itself whole (omega arith) (omega arith)
-      ∙ ap (acceptedAt w) (clean-reported w good b m p buffer line 0 0 (length line) written low itself whole (omega arith) (omega arith) refl refl),
-      samples-returned w good b m p buffer line 0 0 (length line) written low itself whole (omega arith) (omega arith))
+      let itself : Damaged d line line 0 0 = subst (λ (l : List ℕ). Damaged d l l 0 0) (sym is-line) (undamaged d p) in (
+        line-read w good b m p buffer line 0 0 (length line) written low itself whole (omega arith) (omega arith)
+            ∙ ap (acceptedAt w) (clean-reported w good b m p buffer line 0 0 (length line) written low itself whole (omega arith) (omega arith) refl refl),
+        samples-returned w good b m p buffer line 0 0 (length line) written low itself whole (omega arith) (omega arith),
+      )
 
   -- A line is accepted exactly when it is such an image of the line that the writer leaves for some samples; and for those returned.
   pub accepted-is-image : (read : List ℕ) → readAnswer w b read .number ≡ 0
       → (writeRefusal (w .system) (w .line) (samplesOf (dueOf (systemOf (w .system)) (w .line)) read) (length read) .number ≡ 0)
-        × Damaged (dueOf (systemOf (w .system)) (w .line))
-          (lineAfter (w .system) (w .line) (samplesOf (dueOf (systemOf (w .system)) (w .line)) read) read) read
-          (repairsAt read 3) (repairsAt read (savOffset (systemOf (w .system)) + 3))
-        × (repairsAt read 3 ≤ 1) × (repairsAt read (savOffset (systemOf (w .system)) + 3) ≤ 1)
+      × Damaged (dueOf (systemOf (w .system)) (w .line))
+      (lineAfter (w .system) (w .line) (samplesOf (dueOf (systemOf (w .system)) (w .line)) read) read) read
+      (repairsAt read 3) (repairsAt read (savOffset (systemOf (w .system)) + 3))
+      × (repairsAt read 3 ≤ 1) × (repairsAt read (savOffset (systemOf (w .system)) + 3) ≤ 1)
   accepted-is-image read e =
-      let a = answered-accepted w b read e in
-      (writable w read a, image w read a, one-repair (codeReportOf (correctionOf (getD read 3 0))),
-      one-repair (codeReportOf (correctionOf (getD read (savOffset (systemOf (w .system)) + 3) 0))))
+      let a = answered-accepted w b read e in (
+        writable w read a,
+        image w read a,
+        one-repair (codeReportOf (correctionOf (getD read 3 0))),
+        one-repair (codeReportOf (correctionOf (getD read (savOffset (systemOf (w .system)) + 3) 0))),
+      )
 
   pub image-is-accepted : (p : Samples) (buffer read : List ℕ) (eav sav : ℕ)
       → writeRefusal (w .system) (w .line) p (length buffer) .number ≡ 0

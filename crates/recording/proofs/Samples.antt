@@ -11,9 +11,15 @@ pub marked : Marked
 unfolding fourthOf correctionOf vOf fOf dueOf flagsOf dueAt faultWhere
 marked =
     record {
-      m1 = refl; m2 = refl; m3 = refl; m4 = refl; m5 = refl; m6 = refl;
+      m1 = refl;
+      m2 = refl;
+      m3 = refl;
+      m4 = refl;
+      m5 = refl;
+      m6 = refl;
       m7 = (refl, refl, refl);
       m8 = (refl, refl);
       m9 = (refl, refl, refl, refl);
       m10 = serial.m10;
-      m11 = serial.m11 }
+      m11 = serial.m11;
+    }

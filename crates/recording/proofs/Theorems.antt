@@ -57,7 +57,7 @@ through : {system line altered : ℕ} {ps : List Samples} {reads : List (List �
     → isSystem system ≡ true → (lines repairs : ℕ) (b : Samples) → Measured b → (rest : List (List ℕ))
     → isLine system line ≡ true → lines + length ps ≤ mostLines → repairs ≤ 2 * lines
     → PlaysFrom (at system line lines repairs) (reads ++ rest)
-      (λ c. after (pictures system line ps) (play (at system (lineAfterAll system line ps) (lines + length ps) (repairs + altered)) c rest)) b
+    (λ c. after (pictures system line ps) (play (at system (lineAfterAll system line ps) (lines + length ps) (repairs + altered)) c rest)) b
 through {system} {line} end hs lines repairs b m rest hl hn hr =
     let e : lines + 0 ≡ lines = omega arith in
     let f : repairs + 0 ≡ repairs = omega arith in
@@ -70,27 +70,29 @@ through {system} (next {line = line} {eav = eav} {sav = sav} {altered = altered}
     let low : size ≤ lineLength (systemOf system) = omega arith in
     let accepted = line-accepted w good b m p buffer read eav sav size written low dam whole he hs' in
     let rest-of = through more hs (lines + 1) (repairs + (eav + sav)) (readBuffers w b read) (buffers-measured w good b m read accepted) rest
-          (next-line-in system line hl) (omega arith) (omega arith) in
+    (next-line-in system line hl) (omega arith) (omega arith) in
     let e : lines + 1 + length ps ≡ lines + suc (length ps) = omega arith in
-    let f : repairs + (eav + sav) + altered ≡ repairs + (eav + sav + altered) = omega arith in
-    (rest-of .0, rest-of .1,
-    plays-on w good b m p buffer read eav sav size written low dam whole he hs' (reads ++ rest)
-    ∙ ap (andThen (vOf (systemOf system) line) p) (rest-of .2)
-    ∙ kept-before (vOf (systemOf system) line) p (pictures system (nextLine (systemOf system) line) ps) _
-    ∙ rw (e, f))
+    let f : repairs + (eav + sav) + altered ≡ repairs + (eav + sav + altered) = omega arith in (
+      rest-of .0,
+      rest-of .1,
+      plays-on w good b m p buffer read eav sav size written low dam whole he hs' (reads ++ rest)
+          ∙ ap (andThen (vOf (systemOf system) line) p) (rest-of .2)
+          ∙ kept-before (vOf (systemOf system) line) p (pictures system (nextLine (systemOf system) line) ps) _
+          ∙ rw (e, f),
+    )
 
 -- ---- a fresh walk
-record Fresh (system start : ℕ) : Type 0 where
-  a-system : isSystem system ≡ true
-  a-line : isLine system start ≡ true
-  walk : freshOf system start .walk ≡ at system start 0 0
+pub record Fresh (system start : ℕ) : Type 0 where
+  pub a-system : isSystem system ≡ true
+  pub a-line : isLine system start ≡ true
+  pub walk : freshOf system start .walk ≡ at system start 0 0
 
-fresh : (system start : ℕ) → freshOf system start .number ≡ 0 → Fresh system start
+pub fresh : (system start : ℕ) → freshOf system start .number ≡ 0 → Fresh system start
 fresh system start e =
     by-test (isSystem system)
     (λ s. by-test (isLine system start)
-      (λ l. record { a-system = s; a-line = l; walk = ap (λ f. f .walk) (fresh-accepted system start s l) })
-      (λ l. absurd (never 2 (λ z. omega arith) (ap (λ f. f .number) (fresh-no-line system start s l)))))
+    (λ l. record { a-system = s; a-line = l; walk = ap (λ f. f .walk) (fresh-accepted system start s l) })
+    (λ l. absurd (never 2 (λ z. omega arith) (ap (λ f. f .number) (fresh-no-line system start s l)))))
     (λ s. absurd (never 1 (λ z. omega arith) (ap (λ f. f .number) (fresh-no-system system start s))))
   where
     never : (n : ℕ) → (n ≡ 0 → ⊥) → freshOf system start .number ≡ n → ⊥
@@ -126,10 +128,10 @@ two-inverted-line-refused {w} {p} {read} good b m (in-sav {eav = eav} buffer wri
     (two-in-sav d (proper (w .system) (w .line)) p fit-line read eav 2 end-at low struck (omega arith) he refl)
 
 -- buffers of the right lengths, whatever they hold
-blank : Samples
+pub blank : Samples
 blank = samplesOf (dueOf (systemOf 0) 0) []
 
-blank-measured : Measured blank
+pub blank-measured : Measured blank
 unfolding blank
 blank-measured = taken-measured (dueOf (systemOf 0) 0) []
 
@@ -138,8 +140,12 @@ blank-measured = taken-measured (dueOf (systemOf 0) 0) []
 pub recording-reads-back : {system start altered : ℕ} {ps : List Samples} {reads : List (List ℕ)} → freshOf system start .number ≡ 0
     → Recording system start ps reads altered → length ps ≤ mostLines → (buffers : Samples) → Measured buffers
     → play (freshOf system start .walk) buffers reads
-      ≡ record { pictures = pictures system start ps; number = 0; place = 0;
-        walk = record { system = system; line = lineAfterAll system start ps; lines = length ps; repairs = altered } }
+    ≡ record {
+      pictures = pictures system start ps;
+      number = 0;
+      place = 0;
+      walk = record { system = system; line = lineAfterAll system start ps; lines = length ps; repairs = altered };
+    }
 unfolding play
 recording-reads-back {system} {start} {altered} {ps} {reads} hf rec hn b m =
     let f = fresh system start hf in
@@ -163,15 +169,19 @@ pub two-inverted-refused : {system start altered place : ℕ} {ps : List Samples
     → TwoInverted system (lineAfterAll system start ps) p read place
     → (rest : List (List ℕ)) (buffers : Samples) → Measured buffers
     → play (freshOf system start .walk) buffers (reads ++ (read ∷ rest))
-      ≡ record { pictures = pictures system start ps; number = 8; place = place;
-        walk = record { system = system; line = lineAfterAll system start ps; lines = length ps; repairs = altered } }
+    ≡ record {
+      pictures = pictures system start ps;
+      number = 8;
+      place = place;
+      walk = record { system = system; line = lineAfterAll system start ps; lines = length ps; repairs = altered };
+    }
 two-inverted-refused {system} {start} {altered} {place} {ps} {reads} {p} {read} hf rec hn two rest b m =
     let f = fresh system start hf in
     let t = through rec (f .a-system) 0 0 b m (read ∷ rest) (f .a-line) (omega arith) (omega arith) in
     let e : 0 + length ps ≡ length ps = omega arith in
     let g : 0 + altered ≡ altered = omega arith in
     let good : Good (at system (lineAfterAll system start ps) (length ps) altered) =
-          record { system = f .a-system; line = line-after-in system start ps (f .a-line); lines = hn; repairs = few rec } in
+    record { system = f .a-system; line = line-after-in system start ps (f .a-line); lines = hn; repairs = few rec } in
     ap (λ (w : Walk). play w b (reads ++ (read ∷ rest))) (f .walk) ∙ t .2
     ∙ rw (e, g) (ap (after (pictures system start ps)) (stops _ (t .0) read place (two-inverted-line-refused good (t .0) (t .1) two) rest) ∙ rw append-nil)
 
@@ -188,7 +198,8 @@ module _ (w : Walk) (read : List ℕ) (accepted : Accepted w read) where
         a-system = accepted .good .system;
         a-line = accepted .good .line;
         words = accepted .size;
-        fit = accepted-fit (dueOf (systemOf (w .system)) (w .line)) read (accepted .size) (accepted .words-accepted) })
+        fit = accepted-fit (dueOf (systemOf (w .system)) (w .line)) read (accepted .size) (accepted .words-accepted);
+      })
 
   pub image : Damaged (dueOf (systemOf (w .system)) (w .line)) (lineAfter (w .system) (w .line) given read) read
       (repairsAt read 3) (repairsAt read (savOffset (systemOf (w .system)) + 3))
@@ -232,10 +243,13 @@ is-image w (read ∷ rest) b m z =
     let low : size ≤ lineLength (systemOf (w .system)) = omega arith in
     let q = plays-on w (accepted .good) b m p read read e s size written low (image w read accepted) whole he hs rest in
     let i = is-image (at (w .system) (nextLine (systemOf (w .system)) (w .line)) (w .lines + 1) (w .repairs + (e + s))) rest (readBuffers w b read)
-          (buffers-measured w (accepted .good) b m read answered) (ap (λ (r : Played). r .number) (sym q) ∙ z) in
-    (p ∷ i .0, e + s + i .1, next read written (image w read accepted) he hs (i .2),
-    ap (λ (r : Played). r .walk .repairs) q ∙ i .3 ∙ sums (w .repairs) (e + s) (i .1),
-    ap (λ (r : Played). r .pictures) q ∙ ap (λ (l : List Samples). cond v l (p ∷ l)) (i .4))
+    (buffers-measured w (accepted .good) b m read answered) (ap (λ (r : Played). r .number) (sym q) ∙ z) in (
+      p ∷ i .0,
+      e + s + i .1,
+      next read written (image w read accepted) he hs (i .2),
+      ap (λ (r : Played). r .walk .repairs) q ∙ i .3 ∙ sums (w .repairs) (e + s) (i .1),
+      ap (λ (r : Played). r .pictures) q ∙ ap (λ (l : List Samples). cond v l (p ∷ l)) (i .4),
+    )
   where
     sums : (a b c : ℕ) → a + b + c ≡ a + (b + c)
     sums a b c = omega arith
@@ -245,11 +259,13 @@ is-image w (read ∷ rest) b m z =
 pub read-through-is-recording : (system start : ℕ) → freshOf system start .number ≡ 0 → (reads : List (List ℕ)) (buffers : Samples)
     → Measured buffers → play (freshOf system start .walk) buffers reads .number ≡ 0
     → (ps : List Samples) × Recording system start ps reads (play (freshOf system start .walk) buffers reads .walk .repairs)
-      × (play (freshOf system start .walk) buffers reads .pictures ≡ pictures system start ps)
+    × (play (freshOf system start .walk) buffers reads .pictures ≡ pictures system start ps)
 read-through-is-recording system start hf reads b m z =
     let f = fresh system start hf in
     let i = is-image (at system start 0 0) reads b m (ap (λ (w : Walk). play w b reads .number) (sym (f .walk)) ∙ z) in
     let k : i .1 ≡ play (freshOf system start .walk) b reads .walk .repairs =
-          sym (zero-add (i .1)) ∙ sym (i .3) ∙ ap (λ (w : Walk). play w b reads .walk .repairs) (sym (f .walk)) in
-    (i .0, subst (λ (n : ℕ). Recording system start (i .0) reads n) k (i .2),
-    ap (λ (w : Walk). play w b reads .pictures) (f .walk) ∙ i .4)
+    sym (zero-add (i .1)) ∙ sym (i .3) ∙ ap (λ (w : Walk). play w b reads .walk .repairs) (sym (f .walk)) in (
+      i .0,
+      subst (λ (n : ℕ). Recording system start (i .0) reads n) k (i .2),
+      ap (λ (w : Walk). play w b reads .pictures) (f .walk) ∙ i .4,
+    )

@@ -1,3 +1,4 @@
 pub mod Recording
 pub mod Play
 pub mod Marked
+pub mod Confirmed

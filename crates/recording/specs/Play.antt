@@ -21,7 +21,8 @@ readBuffers w b words =
     record {
       y = bufferAfter (readAnswer w b words) (dueIn w words) (ysFrom (activeOffset (systemOf (w .system))) words) (b .y);
       cb = bufferAfter (readAnswer w b words) (dueIn w words) (cbsFrom (activeOffset (systemOf (w .system))) words) (b .cb);
-      cr = bufferAfter (readAnswer w b words) (dueIn w words) (crsFrom (activeOffset (systemOf (w .system))) words) (b .cr) }
+      cr = bufferAfter (readAnswer w b words) (dueIn w words) (crsFrom (activeOffset (systemOf (w .system))) words) (b .cr);
+    }
 
 -- what comes of it: the samples of each accepted V = 0 line, and the last answer's number, place and walk
 pub record Played : Type 0 where

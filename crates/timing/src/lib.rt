@@ -23,14 +23,14 @@ pub struct Report {
     pub sav: CodeReport,
 }
 
-// The seven bits F, V, H, P3, P2, P1, P0 of a legal code.
+// The seven bits F, V, H, P3, P2, P1, P0 of a legal code: each flag stands for itself and inverts the protection bits that follow it.
 pub fn legal(fvh: u32) -> u32
     ensures { λ r. ⌜ r ≡ legalOf fvh ⌝ }
 {
-    let f = fvh / 4 % 2;
-    let v = fvh / 2 % 2;
-    let h = fvh % 2;
-    (f << 6) | (v << 5) | (h << 4) | ((v ^ h) << 3) | ((f ^ h) << 2) | ((f ^ v) << 1) | (f ^ v ^ h)
+    let f = fvh / 4 % 2 * 0b1000111;
+    let v = fvh / 2 % 2 * 0b0101011;
+    let h = fvh % 2 * 0b0011101;
+    f ^ v ^ h
 }
 
 // The fourth word that the writer sets.

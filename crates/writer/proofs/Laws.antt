@@ -1,6 +1,6 @@
 -- The writer's answer, as each of its tests leaves it. Assumes nothing.
 use Prim.Native.Nat.{ℕ}
-use mathlib.Core.Path.{_≡_, refl, sym, ap, _∙_}
+use mathlib.Core.Path.{_≡_, refl, sym, _∙_}
 use mathlib.Core.Bool.{Bool, true, false, not}
 use native.Mathlib.Omega.{arith}
 use lib.Dec.{eqb}
@@ -19,7 +19,7 @@ use Rattle.line.specs.Samples.{Samples, yLength, cLength}
 use Rattle.line.specs.Fit.{Measured}
 use Rattle.writer.specs.Write.{sampleRefusal, writeRefusal}
 use Rattle.writer.proofs.Orders.{orElse-grouped}
-use Rattle.writer.proofs.Places.{samples-none}
+use Rattle.writer.proofs.Places.{inside-accepted, accepted-inside}
 
 -- a fresh walk's answer is its refusal
 fresh-told : (system line : ℕ) → record { number = freshOf system line .number; place = 0 } ≡ freshRefusal system line
@@ -29,11 +29,21 @@ fresh-told system line =
     (λ a. by-test (isLine system line) (λ b. simp (a, b)) (λ b. simp (a, b)))
     (λ a. simp a)
 
--- the first refusal of the words' and the buffers' lengths and the samples, which come after a walk's
+-- what refuses the buffers' lengths
+abbrev pub buffersRefusal : Samples → Refusal
+buffersRefusal p = bufferRefusal (length (p .y)) (length (p .cb)) (length (p .cr))
+
+-- what refuses where a walk does not: the words' length, the buffers' lengths, the samples
 abbrev pub rest : ℕ → ℕ → Samples → ℕ → Refusal
 rest system line p room =
-    orElse (lengthRefusal (systemOf system) room)
-    (orElse (bufferRefusal (length (p .y)) (length (p .cb)) (length (p .cr))) (orElse (sampleRefusal (dueOf (systemOf system) line) p) none))
+    orElse (lengthRefusal (systemOf system) room) (orElse (buffersRefusal p) (orElse (sampleRefusal (dueOf (systemOf system) line) p) none))
+
+-- where an answer with the number 0 is that of acceptance, nothing comes after it
+or-none : (r : Refusal) → (r .number ≡ 0 → r ≡ none) → orElse r none ≡ r
+or-none r h =
+    by-test (eqb (r .number) 0)
+    (λ t. orElse-accepted r none (eqb-true _ _ t) ∙ sym (h (eqb-true _ _ t)))
+    (λ f. orElse-refused r none (eqb-false _ _ f))
 
 module _ (system line : ℕ) (p : Samples) (room : ℕ) where
   pub grouped : orElse (freshRefusal system line) (rest system line p room) ≡ writeRefusal system line p room
@@ -55,32 +65,25 @@ module _ (system line : ℕ) (p : Samples) (room : ℕ) where
     wrong-length n = simp (ne-eqb _ _ n) at after-walk
 
     module _ (sized : room ≡ lineLength (systemOf system)) where
-      after-length : orElse (bufferRefusal (length (p .y)) (length (p .cb)) (length (p .cr))) (orElse (sampleRefusal (dueOf (systemOf system) line) p) none) ≡ writeRefusal system line p room
+      after-length : orElse (buffersRefusal p) (orElse (sampleRefusal (dueOf (systemOf system) line) p) none) ≡ writeRefusal system line p room
       unfolding orElse
       after-length = simp (eq-eqb _ _ sized) at after-walk
 
-      pub wrong-buffers : (bufferRefusal (length (p .y)) (length (p .cb)) (length (p .cr)) .number ≡ 0 → ⊥)
-          → bufferRefusal (length (p .y)) (length (p .cb)) (length (p .cr)) ≡ writeRefusal system line p room
-      wrong-buffers n = sym (orElse-refused (bufferRefusal (length (p .y)) (length (p .cb)) (length (p .cr))) _ n) ∙ after-length
+      pub wrong-buffers : (buffersRefusal p .number ≡ 0 → ⊥) → buffersRefusal p ≡ writeRefusal system line p room
+      wrong-buffers n = sym (orElse-refused (buffersRefusal p) _ n) ∙ after-length
 
-      pub only-samples : bufferRefusal (length (p .y)) (length (p .cb)) (length (p .cr)) .number ≡ 0
-          → sampleRefusal (dueOf (systemOf system) line) p ≡ writeRefusal system line p room
+      pub only-samples : buffersRefusal p .number ≡ 0 → sampleRefusal (dueOf (systemOf system) line) p ≡ writeRefusal system line p room
       only-samples e =
-          sym (or-none (sampleRefusal (dueOf (systemOf system) line) p) (samples-none p (dueOf (systemOf system) line)))
-          ∙ sym (orElse-accepted (bufferRefusal (length (p .y)) (length (p .cb)) (length (p .cr))) _ e) ∙ after-length
-        where
-          or-none : (r : Refusal) → (r .number ≡ 0 → r ≡ none) → orElse r none ≡ r
-          or-none r h =
-              by-test (eqb (r .number) 0)
-              (λ t. orElse-accepted r none (eqb-true _ _ t) ∙ sym (h (eqb-true _ _ t)))
-              (λ f. orElse-refused r none (eqb-false _ _ f))
+          let d = dueOf (systemOf system) line in
+          sym (or-none (sampleRefusal d p) (λ z. inside-accepted p d (accepted-inside p d z)))
+          ∙ sym (orElse-accepted (buffersRefusal p) _ e) ∙ after-length
 
 -- ---- what is known where a test refuses nothing
 pub passed : (t : Bool) (n place : ℕ) → (n ≡ 0 → ⊥) → refuse (not t) n place .number ≡ 0 → t ≡ true
 passed true n place positive e = refl
 passed false n place positive e = absurd (positive e)
 
-pub buffers-measured : (p : Samples) → bufferRefusal (length (p .y)) (length (p .cb)) (length (p .cr)) .number ≡ 0 → Measured p
+pub buffers-measured : (p : Samples) → buffersRefusal p .number ≡ 0 → Measured p
 unfolding bufferRefusal
 buffers-measured p e =
     let y = eqb (length (p .y)) yLength in
@@ -92,8 +95,9 @@ buffers-measured p e =
     record {
       y = eqb-true _ _ (passed y 3 1 (λ z. omega arith) (first .0));
       cb = eqb-true _ _ (passed cb 3 2 (λ z. omega arith) (second .0));
-      cr = eqb-true _ _ (passed cr 3 3 (λ z. omega arith) (third .0)) }
+      cr = eqb-true _ _ (passed cr 3 3 (λ z. omega arith) (third .0));
+    }
 
-pub measured-buffers : (p : Samples) → Measured p → bufferRefusal (length (p .y)) (length (p .cb)) (length (p .cr)) .number ≡ 0
+pub measured-buffers : (p : Samples) → Measured p → buffersRefusal p .number ≡ 0
 unfolding bufferRefusal orElse
 measured-buffers p m = simp (eq-eqb _ _ (m .y), eq-eqb _ _ (m .cb), eq-eqb _ _ (m .cr))

@@ -25,7 +25,8 @@ module _ (word : ℕ → ℕ) (from : ℕ) (before : List ℕ) where
         there =
             λ j lt. below-more (λ n. from ≤ n → getD (set l i v) n 0 ≡ word n) i
             (λ n ln g. getD-set-other l i n v 0 (λ q. omega arith) ∙ h .there n ln g)
-            (λ g. getD-set-same l i v 0 (omega (arith, h .size)) ∙ is) j (omega arith) }
+            (λ g. getD-set-same l i v 0 (omega (arith, h .size)) ∙ is) j (omega arith);
+      }
 
   -- the end of what is put, told another way
   pub put-to : {i : ℕ} (to : ℕ) {l : List ℕ} → i ≡ to → Put word from i before l → Put word from to before l

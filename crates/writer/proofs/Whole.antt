@@ -8,12 +8,11 @@ use lib.Dec.{ltb, eqb}
 use lib.ListN.{length, getD}
 use Rattle.refusal.proofs.Cases.{by-cond}
 use Rattle.system.specs.Figures.{lineLength, savOffset, activeOffset}
-use Rattle.system.proofs.Laws.{line-is-parts, sav-low}
 use Rattle.line.specs.declared.Due.{Due}
 use Rattle.line.specs.declared.What.{What}
-use Rattle.line.specs.declared.What.the-variants.{Ones, Zeros, Fourth, Fill, Sample}
+use Rattle.line.specs.declared.What.the-variants.{Ones, Zeros, Fourth, Fill}
 use Rattle.line.specs.Due.{flagsOf, codeAt, fillAt, dueAt}
-use Rattle.line.specs.Samples.{Samples, activeLength, sampleAt, wordWhere, wordAt, lineOf}
+use Rattle.line.specs.Samples.{Samples, sampleAt, wordWhere, wordAt, lineOf}
 use Rattle.line.proofs.Dues.{due-eav, due-space, due-sav, due-blank, due-sample}
 use Rattle.line.proofs.Tabs.{is-tab}
 use Rattle.writer.specs.Passes.{Put, codeWord, fillWord, activeWord}
@@ -61,7 +60,8 @@ blanked d p l0 l1 l2 l3 eavFlags savFlags savAt size e f a eav space sav =
     let to-sav = then-put _ _ l1 line _ l2 (rw a at space) to-space (λ i l g. fill-words d p i (due-space d i g l)) in
     record {
       size = sav .size ∙ space .size ∙ eav .size ∙ size;
-      there = then-put _ _ l2 line _ l3 (rw (f, a) at sav) to-sav (λ i l g. sav-words d p i g l) }
+      there = then-put _ _ l2 line _ l3 (rw (f, a) at sav) to-sav (λ i l g. sav-words d p i g l);
+    }
 
 -- and then the active part, of fill or of samples
 module _ (d : Due) (p : Samples) (l3 l4 : List ℕ) (done : Blanked d p l3) (at to : ℕ) (a : at ≡ activeOffset (d .system)) (e : to ≡ lineLength (d .system)) where

@@ -5,12 +5,7 @@ use mathlib.Core.List.{List}
 use lib.ListN.{length, getD}
 use Rattle.line.specs.declared.Due.{Due}
 use Rattle.line.specs.Due.{codeAt, fillAt}
-use Rattle.line.specs.Fault.{leastSample, mostSample}
 use Rattle.line.specs.Samples.{Samples, sampleAt, wordWhere}
-
--- each word of a buffer is a sample
-abbrev pub AllSamples : List ℕ → Type 0
-AllSamples l = (k : ℕ) → k < length l → (leastSample ≤ getD l k 0) × (getD l k 0 ≤ mostSample)
 
 -- what stores from one offset up to another leave: the words below as they were, and these words there
 pub record Put (word : ℕ → ℕ) (from to : ℕ) (before after : List ℕ) : Type 0 where

@@ -19,4 +19,4 @@ writeRefusals system line p room =
     before lengthRefusals (systemOf system) room
     before bufferRefusals (length (p .y)) (length (p .cb)) (length (p .cr))
     before Lowest activeLength
-      (λ place. when ((vOf (systemOf system) line ≡ false) × ((sampleAt p place < leastSample) ⊎ (mostSample < sampleAt p place))) 12 place)
+    (λ place. when ((vOf (systemOf system) line ≡ false) × ((sampleAt p place < leastSample) ⊎ (mostSample < sampleAt p place))) 12 place)

@@ -1,15 +1,15 @@
 // Writing a line of samples.
 ghost use mathlib.Core.Path.{_≡_};
 ghost use mathlib.Core.Bool.{true, _||_};
-ghost use Prim.Native.Nat.{_+_, _*_, _%_, _≤_, _<_};
+ghost use Prim.Native.Nat.{_+_, _%_, _≤_, _<_};
 ghost use lib.ListN.{length};
 ghost use lib.Dec.{ltb};
 ghost use Rattle.refusal.specs.Answer.{firstFrom};
 ghost use Rattle.system.specs.Figures.{lineLength};
 ghost use Rattle.line.specs.Fault.{leastSample, mostSample};
 ghost use Rattle.line.specs.Samples.{activeLength, sampleAt, lineOf};
-ghost use Rattle.line.specs.Fit.{Measured};
-ghost use Rattle.writer.specs.Passes.{AllSamples, Put, codeWord, fillWord, activeWord};
+ghost use Rattle.line.specs.Fit.{Measured, Inside};
+ghost use Rattle.writer.specs.Passes.{Put, codeWord, fillWord, activeWord};
 ghost use Rattle.writer.specs.Write.{outsideAt, sampleRefusal, writeRefusal, lineAfter};
 use line::Due;
 use line::buffer_refusal;
@@ -18,9 +18,21 @@ use system::fresh_walk;
 use system::system_of;
 use timing::fourth;
 
+// A sample is 4 to 1019.
+const LEAST_SAMPLE: u16 = 4;
+
+const MOST_SAMPLE: u16 = 1019;
+
 // Writes the line with this number: 1, 2, 3, then 12 at the lowest place of the active part, on V = 0 lines only.
 // On V = 1 lines the samples are measured but not looked at, and fill is written. A refusal leaves the line as it was.
-pub fn write(system: u32, line: u32, y: &[u16], cb: &[u16], cr: &[u16], words: &mut [u16]) -> Refusal
+pub fn write(
+    system: u32,
+    line: u32,
+    y: &[u16],
+    cb: &[u16],
+    cr: &[u16],
+    words: &mut [u16],
+) -> Refusal
     ensures answer { λ r. ⌜ r ≡ writeRefusal system line (record { y = now (y .entry); cb = now (cb .entry); cr = now (cr .entry) }) (length (now (words .entry))) ⌝ }
     ensures words { λ r. ⌜ now (words .exit) ≡ lineAfter system line (record { y = now (y .entry); cb = now (cb .entry); cr = now (cr .entry) }) (now (words .entry)) ⌝ }
 {
@@ -38,11 +50,17 @@ fn write_refusal(system: u32, line: u32, y: &[u16], cb: &[u16], cr: &[u16], room
 {
     let walk = fresh_walk(system, line);
     if walk.number != 0 {
-        return Refusal { number: walk.number, place: 0 };
+        return Refusal {
+            number: walk.number,
+            place: 0,
+        };
     }
     let named = system_of(system);
     if room != named.line_length() {
-        return Refusal { number: 3, place: 0 };
+        return Refusal {
+            number: 3,
+            place: 0,
+        };
     }
     let lengths = buffer_refusal(y.len(), cb.len(), cr.len());
     if lengths.number != 0 {
@@ -51,25 +69,74 @@ fn write_refusal(system: u32, line: u32, y: &[u16], cb: &[u16], cr: &[u16], room
     sample_refusal(Due::of(named, line), y, cb, cr)
 }
 
-// Whether a sample to be written is outside 4 to 1019.
-fn outside(sample: u16) -> bool
-    ensures { λ r. ⌜ r ≡ (ltb sample leastSample || ltb mostSample sample) ⌝ }
+// What refuses the samples of a line: 12, on V = 0 lines only.
+fn sample_refusal(due: Due, y: &[u16], cb: &[u16], cr: &[u16]) -> Refusal
+    requires { ⌜ Measured (record { y = now y; cb = now cb; cr = now cr }) ⌝ }
+    ensures { λ r. ⌜ r ≡ sampleRefusal due (record { y = now (y .entry); cb = now (cb .entry); cr = now (cr .entry) }) ⌝ }
 {
-    if sample < 4 {
-        return true;
+    if due.v || all_samples(y, cb, cr) {
+        return Refusal {
+            number: 0,
+            place: 0,
+        };
     }
-    1019 < sample
+    lowest_outside(y, cb, cr)
 }
 
-// True only where no sample of the buffer is outside. No branch leaves the loop, so that it runs on vectors.
-fn all_samples(samples: &[u16]) -> bool
-    ensures { λ r. ⌜ (r ≡ true → AllSamples (now (samples .entry))) ⌝ }
+// True only where no sample is outside 4 to 1019: one pass over both halves of Y and over CB and CR.
+// The loop has no way out, so that it runs on vectors.
+fn all_samples(y: &[u16], cb: &[u16], cr: &[u16]) -> bool
+    requires { ⌜ Measured (record { y = now y; cb = now cb; cr = now cr }) ⌝ }
+    ensures { λ r. ⌜ (r ≡ true → Inside (record { y = now (y .entry); cb = now (cb .entry); cr = now (cr .entry) })) ⌝ }
 {
-    let mut good = true;
-    for k in 0..samples.len() {
-        good = good & !outside(samples[k]);
+    let half = cb.len();
+    let mut lowest: u16 = LEAST_SAMPLE;
+    let mut highest: u16 = MOST_SAMPLE;
+    for k in 0..half {
+        let left = y[k];
+        let right = y[half + k];
+        let blue = cb[k];
+        let red = cr[k];
+        lowest = lower(lowest, lower(lower(left, right), lower(blue, red)));
+        highest = higher(highest, higher(higher(left, right), higher(blue, red)));
     }
-    good
+    (lowest == LEAST_SAMPLE) & (highest == MOST_SAMPLE)
+}
+
+// The lower of two words.
+fn lower(a: u16, b: u16) -> u16
+    ensures { λ r. ⌜ (r ≤ a) × (r ≤ b) ⌝ }
+{
+    if a < b {
+        return a;
+    }
+    b
+}
+
+// The higher of two words.
+fn higher(a: u16, b: u16) -> u16
+    ensures { λ r. ⌜ (a ≤ r) × (b ≤ r) ⌝ }
+{
+    if a < b {
+        return b;
+    }
+    a
+}
+
+// The exact search behind the quick pass: 12 at the lowest place whose sample is outside.
+fn lowest_outside(y: &[u16], cb: &[u16], cr: &[u16]) -> Refusal
+    requires { ⌜ Measured (record { y = now y; cb = now cb; cr = now cr }) ⌝ }
+    ensures { λ r. ⌜ r ≡ firstFrom (outsideAt (record { y = now (y .entry); cb = now (cb .entry); cr = now (cr .entry) })) 0 activeLength ⌝ }
+{
+    for place in 0..2 * y.len() {
+        if outside(sample_at(y, cb, cr, place)) {
+            return Refusal { number: 12, place };
+        }
+    }
+    Refusal {
+        number: 0,
+        place: 0,
+    }
 }
 
 // The sample at a place of the active part: CB, Y, CR, Y repeated.
@@ -86,34 +153,35 @@ fn sample_at(y: &[u16], cb: &[u16], cr: &[u16], place: usize) -> u16
     cr[place / 4]
 }
 
-// The exact search behind the quick pass: 12 at the lowest place whose sample is outside.
-fn lowest_outside(y: &[u16], cb: &[u16], cr: &[u16]) -> Refusal
-    requires { ⌜ Measured (record { y = now y; cb = now cb; cr = now cr }) ⌝ }
-    ensures { λ r. ⌜ r ≡ firstFrom (outsideAt (record { y = now (y .entry); cb = now (cb .entry); cr = now (cr .entry) })) 0 activeLength ⌝ }
+// Whether a sample to be written is outside 4 to 1019.
+fn outside(sample: u16) -> bool
+    ensures { λ r. ⌜ r ≡ (ltb sample leastSample || ltb mostSample sample) ⌝ }
 {
-    for place in 0..2 * y.len() {
-        if outside(sample_at(y, cb, cr, place)) {
-            return Refusal { number: 12, place };
-        }
+    if sample < LEAST_SAMPLE {
+        return true;
     }
-    Refusal { number: 0, place: 0 }
+    MOST_SAMPLE < sample
 }
 
-// What refuses the samples of a line: 12, on V = 0 lines only.
-fn sample_refusal(due: Due, y: &[u16], cb: &[u16], cr: &[u16]) -> Refusal
-    requires { ⌜ Measured (record { y = now y; cb = now cb; cr = now cr }) ⌝ }
-    ensures { λ r. ⌜ r ≡ sampleRefusal due (record { y = now (y .entry); cb = now (cb .entry); cr = now (cr .entry) }) ⌝ }
+// Writes the line part by part: EAV, fill, SAV, and the active part, which is fill where V is 1.
+fn put_line(due: Due, y: &[u16], cb: &[u16], cr: &[u16], words: &mut [u16])
+    requires { ⌜ Measured (record { y = now y; cb = now cb; cr = now cr }) × (length (now words) ≡ lineLength (due .system)) ⌝ }
+    ensures { λ _. ⌜ now (words .exit) ≡ lineOf due (record { y = now (y .entry); cb = now (cb .entry); cr = now (cr .entry) }) ⌝ }
 {
+    let system = due.system;
+    let sav = system.sav_offset();
+    let end = words.len();
+    put_code(due.flags(true), 0, words);
+    put_fill(due, 4, sav, words);
+    put_code(due.flags(false), sav, words);
     if due.v {
-        return Refusal { number: 0, place: 0 };
+        put_fill(due, sav + 4, end, words);
+        return;
     }
-    if all_samples(y) & all_samples(cb) & all_samples(cr) {
-        return Refusal { number: 0, place: 0 };
-    }
-    lowest_outside(y, cb, cr)
+    put_active(y, cb, cr, sav + 4, words);
 }
 
-// Writes the timing code of F, V, H from an offset on, its low bits as shown.
+// Writes the timing code of F, V, H from an offset on, with the low bits as shown.
 fn put_code(fvh: u32, at: usize, words: &mut [u16])
     requires { ⌜ at + 4 ≤ length (now words) ⌝ }
     ensures { λ _. ⌜ Put (codeWord fvh at) at (at + 4) (now (words .entry)) (now (words .exit)) ⌝ }
@@ -148,22 +216,4 @@ fn put_active(y: &[u16], cb: &[u16], cr: &[u16], at: usize, words: &mut [u16])
         words[offset + 2] = cr[group];
         words[offset + 3] = y[2 * group + 1];
     }
-}
-
-// Writes the line part by part: EAV, fill, SAV, and the active part, which is fill where V is 1.
-fn put_line(due: Due, y: &[u16], cb: &[u16], cr: &[u16], words: &mut [u16])
-    requires { ⌜ Measured (record { y = now y; cb = now cb; cr = now cr }) × (length (now words) ≡ lineLength (due .system)) ⌝ }
-    ensures { λ _. ⌜ now (words .exit) ≡ lineOf due (record { y = now (y .entry); cb = now (cb .entry); cr = now (cr .entry) }) ⌝ }
-{
-    let system = due.system;
-    let sav = system.sav_offset();
-    let end = words.len();
-    put_code(due.flags(true), 0, words);
-    put_fill(due, 4, sav, words);
-    put_code(due.flags(false), sav, words);
-    if due.v {
-        put_fill(due, sav + 4, end, words);
-        return;
-    }
-    put_active(y, cb, cr, sav + 4, words);
 }

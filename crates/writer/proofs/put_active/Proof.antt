@@ -3,16 +3,14 @@ use Prim.Native.Nat.{_+_, _-_, _*_, _≤_}
 use mathlib.Core.Path.{_≡_, refl}
 use native.Mathlib.Omega.{arith}
 use denote.Ref.{now}
-use borrow.Author.Needs.{needs}
 use lib.ListN.{length, getD, set, length-set}
+use borrow.Author.Needs.{needs}
 use Rattle.line.specs.Samples.{Samples}
 use Rattle.writer.specs.Passes.{Put, activeWord}
 use Rattle.writer.proofs.Places.{cb-at, cr-at, y-at}
 use Rattle.writer.proofs.Puts.{put-none, put-store, put-to}
 use Rattle.writer.proofs.put_active.Statement.{statement}
 use Rattle.writer.proofs.put_active.Tie as tie
-use Rattle.writer.proofs.put_active.Reads as reads
-use Rattle.writer.proofs.put_active.Lts as lts
 
 abbrev Inv-loop : tie.InvT-loop
 Inv-loop y cb cr at words₀ group₀ group-end words group =
@@ -103,7 +101,7 @@ loop-less : tie.Need-loop-less Inv-loop μ-loop
 loop-less c = search needs
 
 loop-again : tie.Need-loop-again Inv-loop μ-loop
-loop-again c = 
+loop-again c =
     let at = c .before .before .before .before .before in
     let a = at .before .args in
     let p : Samples = record { y = now (a .y); cb = now (a .cb); cr = now (a .cr) } in

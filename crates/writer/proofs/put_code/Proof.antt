@@ -4,16 +4,13 @@ use mathlib.Core.Path.{_≡_, refl, sym, ap, _∙_}
 use native.Mathlib.Omega.{arith}
 use denote.Ref.{now}
 use lib.ListN.{set, length-set}
+use borrow.Author.Needs.{needs}
 use Rattle.line.specs.Due.{codeAt}
 use Rattle.line.specs.Samples.{wordWhere}
 use Rattle.writer.specs.Passes.{codeWord}
 use Rattle.writer.proofs.Puts.{put-none, put-store}
-use borrow.Author.Needs.{needs}
 use Rattle.writer.proofs.put_code.Statement.{statement}
 use Rattle.writer.proofs.put_code.Tie as tie
-use Rattle.writer.proofs.put_code.Reads as reads
-use Rattle.writer.proofs.put_code.Lts as lts
-use Rattle.timing.proofs.fourth.Reads as fourth-reads
 
 -- the k-th word of the code, where it stands
 code-word : (fvh at i k : ℕ) → i - at ≡ k → wordWhere (codeAt fvh k) 0 ≡ codeWord fvh at i
@@ -59,7 +56,7 @@ same-length : tie.Need-same-length
 same-length c = search needs
 
 returns : tie.Need-returns
-returns c = 
+returns c =
     let a = c .before .before .args in
     let i = a .at in
     let word = codeWord (a .fvh) i in

@@ -4,14 +4,12 @@ use mathlib.Core.Path.{_≡_, refl}
 use native.Mathlib.Omega.{arith}
 use denote.Ref.{now}
 use lib.ListN.{set, length-set}
+use borrow.Author.Needs.{needs}
 use borrow.Author.Tests.{eq-eqb, ne-eqb}
 use Rattle.writer.specs.Passes.{Put, fillWord}
 use Rattle.writer.proofs.Puts.{put-none, put-store, put-to}
-use borrow.Author.Needs.{needs}
 use Rattle.writer.proofs.put_fill.Statement.{statement}
 use Rattle.writer.proofs.put_fill.Tie as tie
-use Rattle.writer.proofs.put_fill.Reads as reads
-use Rattle.writer.proofs.put_fill.Lts as lts
 
 abbrev Inv-loop : tie.InvT-loop
 Inv-loop due from to words₀ pair₀ pair-end words pair = (pair ≤ pair-end) × (pair-end ≡ (to - from) / 2) × Put (fillWord due) from (from + 2 * pair) words₀ words
@@ -53,7 +51,7 @@ loop-less : tie.Need-loop-less Inv-loop μ-loop
 loop-less c = search needs
 
 loop-again : tie.Need-loop-again Inv-loop μ-loop
-loop-again c = 
+loop-again c =
     let a = c .before .before .args in
     let at = c .before .loop in
     let i = a .from + 2 * at .pair in

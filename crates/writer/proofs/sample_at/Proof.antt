@@ -1,11 +1,9 @@
 -- `writer::sample_at` meets its contract, test by test. Assumes nothing.
+use borrow.Author.Needs.{needs}
 use borrow.Author.Tests.{eq-eqb, ne-eqb}
 use Rattle.line.specs.Samples.{sampleAt}
-use borrow.Author.Needs.{needs}
 use Rattle.writer.proofs.sample_at.Statement.{statement}
 use Rattle.writer.proofs.sample_at.Tie as tie
-use Rattle.writer.proofs.sample_at.Reads as reads
-use Rattle.writer.proofs.sample_at.Lts as lts
 
 mul-result : tie.Need-mul-result
 mul-result c = search needs

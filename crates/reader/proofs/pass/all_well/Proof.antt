@@ -19,29 +19,35 @@ returns-2 c = λ e. absurd (true≢false (sym e))
 sav-offset-requires : tie.Need-sav-offset-requires
 sav-offset-requires c κs = search needs
 
+flags-requires : tie.Need-flags-requires
+flags-requires c κs = search needs
+
 code-well-requires : tie.Need-code-well-requires
-code-well-requires c κs = omega (arith, line-is-parts (c .before .before .before .before .before .before .args .d .system))
+code-well-requires c κs = omega (arith, line-is-parts (c .before .before .before .before .before .before .before .args .d .system))
 
 returns-3 : tie.Need-returns-3
 returns-3 c = λ e. absurd (true≢false (sym e))
 
 sub-filled : tie.Need-sub-filled
 sub-filled c =
-    let s = c .before .before in
+    let s = c .before .before .before in
     omega (arith, s .sav-offset .ensures, sav-low (s .before .before .before .before .before .before .args .d .system))
 
 filled-requires : tie.Need-filled-requires
 filled-requires c κs =
-    let s = c .before .before in
+    let s = c .before .before .before in
     let system = s .before .before .before .before .before .before .args .d .system in
     omega (arith, s .sav-offset .ensures, sav-low system, line-is-parts system)
 
 returns-4 : tie.Need-returns-4
 returns-4 c = λ e. absurd (true≢false (sym e))
 
+flags-requires-2 : tie.Need-flags-requires-2
+flags-requires-2 c κs = search needs
+
 code-well-requires-2 : tie.Need-code-well-requires-2
 code-well-requires-2 c κs =
-    let s = c .before .before .before .before in
+    let s = c .before .before .before .before .before .before in
     omega (arith, s .sav-offset .ensures, line-is-parts (s .before .before .before .before .before .before .args .d .system))
 
 returns-5 : tie.Need-returns-5
@@ -53,17 +59,18 @@ active-well-requires c κs = search needs
 returns-6 : tie.Need-returns-6
 returns-6 c = λ e.
     let sav = c .before .before in
-    let space = sav .before .before in
+    let space = sav .before .before .before in
     let eav = space .before .before in
-    let fill = eav .before .before in
-    let a = fill .before .before .before .before .before .args in
+    let start = eav .before .before in
+    let a = start .before .before .before .before .before .before .args in
     passed-well (a .d) (now (a .words))
     (record {
-      even = fill .before .before .if1 .left;
-      odd = fill .if2 .left;
-      eav = eav .code-well .ensures (not-false (eav .code-well .result) (space .before .if3 .left));
-      space = rw (eav .before .sav-offset .ensures) at (space .filled .ensures (not-false (space .filled .result) (sav .before .if4 .left)));
-      sav = rw (eav .before .sav-offset .ensures) at (sav .code-well2 .ensures (not-false (sav .code-well2 .result) (c .before .if5 .left)));
+      even = start .before .before .before .if1 .left;
+      odd = start .before .if2 .left;
+      eav = rw (eav .before .flags .ensures) at (eav .code-well .ensures (not-false (eav .code-well .result) (space .before .if3 .left)));
+      space = rw (start .sav-offset .ensures) at (space .filled .ensures (not-false (space .filled .result) (sav .before .before .if4 .left)));
+      sav =
+          rw (start .sav-offset .ensures, sav .before .flags2 .ensures) at (sav .code-well2 .ensures (not-false (sav .code-well2 .result) (c .before .if5 .left)));
       active = c .active-well .ensures e;
     })
 
@@ -74,11 +81,13 @@ all-well-spec =
     returns
     returns-2
     sav-offset-requires
+    flags-requires
     code-well-requires
     returns-3
     sub-filled
     filled-requires
     returns-4
+    flags-requires-2
     code-well-requires-2
     returns-5
     active-well-requires

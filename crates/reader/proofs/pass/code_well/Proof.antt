@@ -1,67 +1,109 @@
--- `reader::pass::code_well` meets its contract. The loop's invariant: no word passed has a fault. Assumes nothing.
+-- `reader::pass::code_well` meets its contract: four words, and no fault at any. Assumes nothing.
 use borrow.Author.Needs.{needs}
-use Prim.Native.Nat.{_-_, _≤_}
-use mathlib.Core.Path.{sym, _∙_}
-use mathlib.Core.Bool.{true≢false}
+use Prim.Native.Nat.{ℕ, zero, suc, _+_, _<_}
+use mathlib.Core.Path.{_≡_, sym, _∙_}
+use mathlib.Core.Bool.{true, _&&_}
 use native.Mathlib.Omega.{arith}
-use borrow.Author.Count.{below-more}
-use Rattle.line.specs.Fault.{faultAt}
-use Rattle.reader.specs.Passes.{Well}
+use denote.Ref.{now}
+use lib.Dec.{eqb}
+use lib.ListN.{getD}
+use borrow.Author.Tests.{eqb-true}
+use Rattle.line.specs.Due.{codeAt}
+use Rattle.line.specs.Fault.{faultWhere}
+use Rattle.reader.proofs.Tests.{and-true}
 use Rattle.reader.proofs.pass.code_well.Statement.{statement}
 use Rattle.reader.proofs.pass.code_well.Tie as tie
 
-abbrev Inv-loop : tie.InvT-loop
-Inv-loop d words from k₀ k = (k ≤ 4) × Well d words from k
+by-four : (P : ℕ → Type 0) → P 0 → P 1 → P 2 → P 3 → (k : ℕ) → k < 4 → P k
+by-four P p0 p1 p2 p3 zero l = p0
+by-four P p0 p1 p2 p3 (suc zero) l = p1
+by-four P p0 p1 p2 p3 (suc (suc zero)) l = p2
+by-four P p0 p1 p2 p3 (suc (suc (suc zero))) l = p3
+by-four P p0 p1 p2 p3 (suc (suc (suc (suc k)))) l = absurd (omega arith)
 
-abbrev μ-loop : tie.MeasureT-loop
-μ-loop d words from k₀ k = 4 - k
+all-zero : (a b c d : ℕ) → (((eqb a 0 && eqb b 0) && eqb c 0) && eqb d 0) ≡ true → (a ≡ 0) × (b ≡ 0) × (c ≡ 0) × (d ≡ 0)
+all-zero a b c d e =
+    let three = and-true ((eqb a 0 && eqb b 0) && eqb c 0) (eqb d 0) e in
+    let two = and-true (eqb a 0 && eqb b 0) (eqb c 0) (three .0) in
+    let one = and-true (eqb a 0) (eqb b 0) (two .0) in
+    (eqb-true _ _ (one .0), eqb-true _ _ (one .1), eqb-true _ _ (two .1), eqb-true _ _ (three .1))
 
-loop-holds : tie.Need-loop-holds Inv-loop μ-loop
-loop-holds c = (omega arith, λ j l. absurd (omega arith))
+mul-fault : tie.Need-mul-fault
+mul-fault c = search needs
 
-add-offset : tie.Need-add-offset Inv-loop μ-loop
-add-offset c = search needs
+shared-slice-read-fault : tie.Need-shared-slice-read-fault
+shared-slice-read-fault c = search needs
 
-mul-fault-at : tie.Need-mul-fault-at Inv-loop μ-loop
-mul-fault-at c = search needs
+fault-requires : tie.Need-fault-requires
+fault-requires c κs = search needs
 
-shared-slice-read-fault-at : tie.Need-shared-slice-read-fault-at Inv-loop μ-loop
-shared-slice-read-fault-at c = search needs
+add-fault : tie.Need-add-fault
+add-fault c = search needs
 
-fault-at-requires : tie.Need-fault-at-requires Inv-loop μ-loop
-fault-at-requires c κs = search needs
+mul-fault-2 : tie.Need-mul-fault-2
+mul-fault-2 c = search needs
 
-returns : tie.Need-returns Inv-loop μ-loop
-returns c = λ e. absurd (true≢false (sym e))
+shared-slice-read-fault-2 : tie.Need-shared-slice-read-fault-2
+shared-slice-read-fault-2 c = search needs
 
-add-k : tie.Need-add-k Inv-loop μ-loop
-add-k c = search needs
+fault-requires-2 : tie.Need-fault-requires-2
+fault-requires-2 c κs = search needs
 
-loop-less : tie.Need-loop-less Inv-loop μ-loop
-loop-less c = search needs
+add-fault-2 : tie.Need-add-fault-2
+add-fault-2 c = search needs
 
-loop-again : tie.Need-loop-again Inv-loop μ-loop
-unfolding faultAt
-loop-again c =
-    let at = c .before .before .before .before in
-    (omega arith, below-more _ _ (at .loop .inv .1) (sym (c .before .fault-at .ensures) ∙ c .if1 .left))
+mul-fault-3 : tie.Need-mul-fault-3
+mul-fault-3 c = search needs
 
-returns-2 : tie.Need-returns-2 Inv-loop μ-loop
-returns-2 c = λ e j l. c .before .loop .inv .1 j (omega arith)
+shared-slice-read-fault-3 : tie.Need-shared-slice-read-fault-3
+shared-slice-read-fault-3 c = search needs
+
+fault-requires-3 : tie.Need-fault-requires-3
+fault-requires-3 c κs = search needs
+
+add-fault-3 : tie.Need-add-fault-3
+add-fault-3 c = search needs
+
+mul-fault-4 : tie.Need-mul-fault-4
+mul-fault-4 c = search needs
+
+shared-slice-read-fault-4 : tie.Need-shared-slice-read-fault-4
+shared-slice-read-fault-4 c = search needs
+
+fault-requires-4 : tie.Need-fault-requires-4
+fault-requires-4 c κs = search needs
+
+returns : tie.Need-returns
+returns c = λ e.
+    let third = c .before .before in
+    let second = third .before .before in
+    let first = second .before .before in
+    let a = first .before .before .before .args in
+    let start : a .from + 0 ≡ a .from = omega arith in
+    let well = all-zero (first .fault .result) (second .fault2 .result) (third .fault3 .result) (c .fault4 .result) e in
+    by-four (λ k. faultWhere (codeAt (a .fvh) k) (getD (now (a .words)) (a .from + k) 0) ≡ 0)
+    (rw start (sym (first .fault .ensures) ∙ well .0))
+    (sym (second .fault2 .ensures) ∙ well .1)
+    (sym (third .fault3 .ensures) ∙ well .2)
+    (sym (c .fault4 .ensures) ∙ well .3)
 
 pub code-well-spec : {M : Type 1} → statement M
 code-well-spec =
     tie.close
     (tie.spec
-    Inv-loop
-    μ-loop
-    loop-holds
-    add-offset
-    mul-fault-at
-    shared-slice-read-fault-at
-    fault-at-requires
-    returns
-    add-k
-    loop-less
-    loop-again
-    returns-2)
+    mul-fault
+    shared-slice-read-fault
+    fault-requires
+    add-fault
+    mul-fault-2
+    shared-slice-read-fault-2
+    fault-requires-2
+    add-fault-2
+    mul-fault-3
+    shared-slice-read-fault-3
+    fault-requires-3
+    add-fault-3
+    mul-fault-4
+    shared-slice-read-fault-4
+    fault-requires-4
+    returns)

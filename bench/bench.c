@@ -1,0 +1,244 @@
+/* The speed of Fiskrogn beside memcpy and plain C, measured side by side in one run. Prints ratios, never times.
+ * usage: bench [MIB]    how much material to stream, 40 MiB unless told; with 1 it is a test of correctness. */
+#include "../include/fiskrogn.h"
+
+#include <stdio.h>
+#include <stdlib.h>
+#include <string.h>
+#include <time.h>
+
+uint32_t speed_judge(uint32_t system, uint32_t line, const uint16_t *words, size_t count);
+uint32_t speed_read(uint32_t system, uint32_t line, const uint16_t *words, size_t count, uint16_t *y, size_t ys, uint16_t *cb,
+                    size_t cbs, uint16_t *cr, size_t crs);
+uint32_t speed_write(uint32_t system, uint32_t line, const uint16_t *y, size_t ys, const uint16_t *cb, size_t cbs,
+                     const uint16_t *cr, size_t crs, uint16_t *words, size_t count);
+uint32_t speed_code(const uint16_t *words, size_t count, uint16_t *out, size_t room);
+uint32_t speed_decode(const uint16_t *words, size_t count, uint16_t *out, size_t room);
+
+enum { RUN = 65536, ROUNDS = 7 };
+
+typedef struct {
+    uint32_t system;
+    size_t words, sav, lines;
+} System;
+
+static const System systems[] = {{525, 1716, 272, 525}, {625, 1728, 284, 625}};
+
+/* ---- the material of one system: lines in turn, written by us, of random samples */
+static const System *now;
+static uint16_t *store, *target;
+static size_t count; /* lines */
+static uint16_t y[720], cb[360], cr[360];
+
+static uint32_t number_of(size_t k) { return (uint32_t)(k % now->lines + 1); }
+
+static uint16_t sample(void) {
+    static uint64_t state = 656;
+    state = state * 6364136223846793005u + 1442695040888963407u;
+    return (uint16_t)(4 + (state >> 33) % 1016);
+}
+
+static void check(int right, const char *what) {
+    if (!right) {
+        printf("FAILED: %s\n", what);
+        exit(1);
+    }
+}
+
+static void fill_store(void) {
+    for (size_t i = 0; i < 720; i++) y[i] = sample();
+    for (size_t i = 0; i < 360; i++) cb[i] = sample(), cr[i] = sample();
+    for (size_t k = 0; k < count; k++) {
+        uint32_t n = speed_write(now->system, number_of(k), y, 720, cb, 360, cr, 360, store + k * now->words, now->words);
+        check(n == 0, "a line is written");
+    }
+}
+
+/* ---- what C does instead: the same judgement of a clean line, leaving at the first fault, and in two passes */
+static uint16_t fourth(const System *s, uint32_t line, int h) {
+    int f = s->system == 525 ? line >= 266 || line <= 3 : line >= 313;
+    int v = s->system == 525 ? line <= 19 || (line >= 264 && line <= 282) : line >= 624 || line <= 22 || (line >= 311 && line <= 335);
+    return (uint16_t)(512 | f << 8 | v << 7 | h << 6 | (v ^ h) << 5 | (f ^ h) << 4 | (f ^ v) << 3 | (f ^ v ^ h) << 2);
+}
+
+static int code_differs(const uint16_t *w, uint16_t due) {
+    return w[0] < 1020 || w[0] > 1023 || w[1] > 3 || w[2] > 3 || w[3] > 1023 || __builtin_popcount((w[3] ^ due) >> 2) > 1;
+}
+
+static int is_blank(const System *s, uint32_t line) { return fourth(s, line, 0) >> 7 & 1; }
+
+static uint32_t plain_judge(const System *s, uint32_t line, const uint16_t *w) {
+    if (code_differs(w, fourth(s, line, 1)) || code_differs(w + s->sav, fourth(s, line, 0))) return 1;
+    int blank = is_blank(s, line);
+    for (size_t i = 4; i < s->sav; i++)
+        if (w[i] != (i % 2 ? 64 : 512)) return 1;
+    for (size_t i = s->sav + 4; i < s->words; i++) {
+        if (blank ? w[i] != (i % 2 ? 64 : 512) : w[i] < 4 || w[i] > 1019) return 1;
+    }
+    return 0;
+}
+
+static uint32_t two_pass_judge(const System *s, uint32_t line, const uint16_t *w) {
+    unsigned bad = code_differs(w, fourth(s, line, 1)) | code_differs(w + s->sav, fourth(s, line, 0));
+    for (size_t i = 4; i < s->sav; i += 2) bad |= (w[i] ^ 512u) | (w[i + 1] ^ 64u);
+    if (is_blank(s, line))
+        for (size_t i = s->sav + 4; i < s->words; i += 2) bad |= (w[i] ^ 512u) | (w[i + 1] ^ 64u);
+    else
+        for (size_t i = s->sav + 4; i < s->words; i++) bad |= (uint16_t)(w[i] - 4) > 1015;
+    return bad ? 1 + plain_judge(s, line, w) : 0;
+}
+
+/* ---- each row: one pass over the material, or over runs of serial words */
+static void copy(void) { memcpy(target, store, 2 * count * now->words); }
+
+#define OVER_LINES(name, call)                                 \
+    static void name(void) {                                   \
+        uint32_t wrong = 0;                                    \
+        for (size_t k = 0; k < count; k++) {                   \
+            uint32_t line = number_of(k);                      \
+            const uint16_t *words = store + k * now->words;    \
+            wrong |= (call);                                   \
+        }                                                      \
+        check(wrong == 0, #name);                              \
+    }
+
+OVER_LINES(plain_c, plain_judge(now, line, words))
+OVER_LINES(two_pass_c, two_pass_judge(now, line, words))
+OVER_LINES(judge_words, speed_judge(now->system, line, words, now->words))
+OVER_LINES(judge_bytes, fiskrogn_judge(now->system, line, 0, 0, (const uint8_t *)words, 2 * now->words))
+OVER_LINES(read_lines, speed_read(now->system, line, words, now->words, y, 720, cb, 360, cr, 360))
+OVER_LINES(write_lines, speed_write(now->system, line, y, 720, cb, 360, cr, 360, target + (words - store), now->words))
+
+/* ---- serial words: C bit by bit, and word by word with the same two short steps */
+static uint16_t plain_words[RUN], channel_words[RUN], back[RUN];
+
+static void code_bit_by_bit(void) {
+    unsigned past = 0, last = 0;
+    for (size_t i = 0; i < RUN; i++) {
+        unsigned out = 0;
+        for (int b = 0; b < 10; b++) {
+            unsigned x = (plain_words[i] >> b ^ past >> 4 ^ past >> 8) & 1;
+            last ^= x;
+            past = past << 1 | x;
+            out |= last << b;
+        }
+        channel_words[i] = (uint16_t)out;
+    }
+}
+
+static void decode_bit_by_bit(void) {
+    unsigned past = 0, last = 0;
+    for (size_t i = 0; i < RUN; i++) {
+        unsigned out = 0;
+        for (int b = 0; b < 10; b++) {
+            unsigned bit = channel_words[i] >> b & 1, x = bit ^ last;
+            last = bit;
+            out |= ((x ^ past >> 4 ^ past >> 8) & 1) << b;
+            past = past << 1 | x;
+        }
+        back[i] = (uint16_t)out;
+    }
+}
+
+static void code_word_by_word(void) {
+    unsigned held = 0, last = 0;
+    for (size_t i = 0; i < RUN; i++) {
+        unsigned low = plain_words[i] ^ held >> 4 ^ held;
+        unsigned s = (plain_words[i] ^ low << 5 ^ held >> 4 ^ low << 9 ^ held) & 1023;
+        unsigned c = s ^ s << 1;
+        c ^= c << 2;
+        c ^= c << 4;
+        c = (c ^ c << 8 ^ (0 - last)) & 1023;
+        channel_words[i] = (uint16_t)c;
+        held = s >> 1;
+        last = c >> 9;
+    }
+}
+
+static void decode_word_by_word(void) {
+    unsigned held = 0, last = 0;
+    for (size_t i = 0; i < RUN; i++) {
+        unsigned c = channel_words[i], s = (c ^ c << 1 ^ last) & 1023;
+        back[i] = (uint16_t)((s ^ s << 5 ^ held >> 4 ^ s << 9 ^ held) & 1023);
+        held = s >> 1;
+        last = c >> 9;
+    }
+}
+
+static void code(void) { check(speed_code(plain_words, RUN, channel_words, RUN) == 0, "coding"); }
+static void decode(void) { check(speed_decode(channel_words, RUN, back, RUN) == 0, "decoding"); }
+
+/* ---- measuring: rounds in turn over all rows, the best of each */
+typedef struct {
+    const char *name;
+    void (*run)(void);
+    double best;
+} Row;
+
+static double seconds(void) {
+    struct timespec t;
+    clock_gettime(CLOCK_MONOTONIC, &t);
+    return (double)t.tv_sec + 1e-9 * (double)t.tv_nsec;
+}
+
+static void measure(Row *rows, size_t n, int times) {
+    for (size_t i = 0; i < n; i++) rows[i].best = 1e9;
+    for (int round = 0; round < ROUNDS; round++)
+        for (size_t i = 0; i < n; i++) {
+            double began = seconds();
+            for (int k = 0; k < times; k++) rows[i].run();
+            double took = seconds() - began;
+            if (took < rows[i].best) rows[i].best = took;
+        }
+}
+
+static void lines_table(const System *s, size_t mib) {
+    now = s;
+    count = mib * 1048576 / (2 * s->words);
+    fill_store();
+    memcpy(target, store, 2 * count * s->words);
+    Row rows[] = {{"memcpy", copy, 0},         {"plain C, first fault", plain_c, 0}, {"C in two passes", two_pass_c, 0},
+                  {"judge words", judge_words, 0}, {"judge bytes", judge_bytes, 0},      {"read", read_lines, 0},
+                  {"write", write_lines, 0}};
+    size_t n = sizeof rows / sizeof *rows;
+    measure(rows, n, 1);
+    write_lines();
+    fill_store();
+    printf("%u lines            of memcpy   times plain C\n", s->system);
+    for (size_t i = 0; i < n; i++) printf("%-22s %8.2f %12.1f\n", rows[i].name, rows[0].best / rows[i].best, rows[1].best / rows[i].best);
+}
+
+static void serial_table(void) {
+    for (size_t i = 0; i < RUN; i++) plain_words[i] = (uint16_t)(sample() & 1023);
+    code_bit_by_bit();
+    static uint16_t expected[RUN];
+    memcpy(expected, channel_words, sizeof expected);
+    code_word_by_word();
+    check(memcmp(expected, channel_words, sizeof expected) == 0, "C by words codes as C by bits");
+    memset(channel_words, 0, sizeof channel_words);
+    code();
+    check(memcmp(expected, channel_words, sizeof expected) == 0, "coding agrees with C by bits");
+    decode_word_by_word();
+    check(memcmp(plain_words, back, sizeof back) == 0, "C by words decodes");
+    memset(back, 0, sizeof back);
+    decode();
+    check(memcmp(plain_words, back, sizeof back) == 0, "decoding undoes coding");
+    Row rows[] = {{"code, C by bits", code_bit_by_bit, 0},     {"code, C by words", code_word_by_word, 0},     {"code", code, 0},
+                  {"decode, C by bits", decode_bit_by_bit, 0}, {"decode, C by words", decode_word_by_word, 0}, {"decode", decode, 0}};
+    measure(rows, 6, 20);
+    printf("serial words           times C by bits   times C by words\n");
+    for (size_t i = 0; i < 6; i++) {
+        const Row *bits = &rows[i / 3 * 3];
+        printf("%-22s %10.1f %18.2f\n", rows[i].name, bits[0].best / rows[i].best, bits[1].best / rows[i].best);
+    }
+}
+
+int main(int argc, char **argv) {
+    size_t mib = argc > 1 ? strtoul(argv[1], NULL, 10) : 40;
+    store = malloc(mib * 1048576);
+    target = malloc(mib * 1048576);
+    check(store && target && mib > 0, "memory");
+    for (size_t i = 0; i < 2; i++) lines_table(&systems[i], mib);
+    serial_table();
+    return 0;
+}

@@ -1,0 +1,249 @@
+-- Demand 3 of the confirming program: what went in is confirmed, and nothing else ever is. A run over the bytes of lines goes as reading
+-- their words does, so that the theorems on reading line by line carry over. Assumes nothing.
+use Prim.Native.Nat.{ℕ, zero, suc, _+_, _<_, _≤_}
+use mathlib.Core.Path.{_≡_, refl, sym, ap, subst, _∙_}
+use mathlib.Core.List.{List, [], _∷_, _++_, map, flatten, append-nil, append-assoc, map-append}
+use mathlib.Core.List.{List·Memᴰ, List·Memᴰ·head, List·Memᴰ·tail, List·Memᴰ·not-nil, List·Memᴰ·cases-cons}
+use mathlib.Core.Logic.{⊎-elim}
+use native.Mathlib.Omega.{arith}
+use lib.Dec.{eqb}
+use lib.ListN.{length, take, drop, length-append, length-drop, length-map, take-append-drop}
+use lib.Seq.{take-at, drop-at}
+use borrow.Author.Tests.{eqb-true, eqb-false}
+use Rattle.refusal.specs.declared.Refusal.{Refusal}
+use Rattle.refusal.proofs.Cases.{by-cond, by-test}
+use Rattle.timing.specs.declared.Report.{Report}
+use Rattle.system.specs.declared.Walk.{Walk}
+use Rattle.system.specs.Figures.{lineLength, systemOf}
+use Rattle.system.specs.Walk.{mostLines, walkRefusal, freshWalk, freshOf, advancedOf}
+use Rattle.system.proofs.Laws.{Good, accepted-good, fresh-accepted}
+use Rattle.line.specs.Samples.{Samples}
+use Rattle.line.specs.Fit.{Measured}
+use Rattle.reader.specs.declared.Judgement.{Judgement}
+use Rattle.reader.specs.Judge.{acceptedAt, refusedAt, judgementOf, judgedOf}
+use Rattle.lent.specs.Bytes.{wordsOf, judgedBytes}
+use Rattle.lent.proofs.Judged.{judged-walk, judged-count}
+use Rattle.lent.proofs.Theorems.{bytes-as-words}
+use Rattle.confirmation.specs.declared.Run.{Run}
+use Rattle.confirmation.specs.Run.{headerLength, headerSystem, headerStart, begunOf, lineBytes, judgedNext, bodyOf, confirmedOf}
+use Rattle.confirmation.proofs.Nexts.{next-line-bytes}
+use Rattle.confirmation.proofs.Bodies.{line-has-bytes, body-ended, body-none, body-next}
+use Rattle.recording.specs.Recording.{Recording, end, next, lineAfterAll, TwoInverted}
+use Rattle.recording.specs.Play.{readAnswer, readBuffers, Played, stoppedBy, play}
+use Rattle.recording.specs.Confirmed.{Holds}
+use Rattle.recording.proofs.OneLine.{measured-accepted, buffers-measured, answered-accepted}
+use Rattle.recording.proofs.Theorems.{fresh, blank, blank-measured, recording-reads-back, two-inverted-refused, read-through-is-recording}
+
+-- every line has so many bytes
+abbrev Each : ℕ → List (List ℕ) → Type 0
+Each n lines = (line : List ℕ) → List·Memᴰ line lines → length line ≡ n
+
+-- a judgement with the number 0 is that of an accepted line
+accepted-judgement : (r : Refusal) (w : Walk) (report : Report) → judgementOf r w report .number ≡ 0
+    → judgementOf r w report ≡ acceptedAt w report
+unfolding judgementOf
+accepted-judgement r w report =
+    by-cond (λ (j : Judgement). j .number ≡ 0 → j ≡ acceptedAt w report) (eqb (r .number) 0) (acceptedAt w report) (refusedAt w r)
+    (λ t z. refl) (λ f z. absurd (eqb-false _ _ f z))
+
+-- ---- a run over lines goes as playing their words does
+module _ (system start : ℕ) where
+  -- a run that goes on at a walk
+  abbrev goingOn : Walk → Run
+  goingOn w = record { system = system; start = start; walk = w; number = 0; place = 0 }
+
+  -- a run after what was played
+  abbrev runAfter : Played → Run
+  runAfter p = record { system = system; start = start; walk = p .walk; number = p .number; place = p .place }
+
+  -- one line: its bytes are judged as the read call answers to its words
+  module _ (w : Walk) (b : Samples) (m : Measured b) (line : List ℕ) (size : length line ≡ lineBytes w) where
+    judged-as-read : judgedNext (goingOn w) line ≡ runAfter (stoppedBy (readAnswer w b (wordsOf line)))
+    unfolding judgedNext
+    judged-as-read =
+        ap (λ (j : Judgement). runAfter (stoppedBy j))
+        (bytes-as-words w line (lineLength (systemOf (w .system))) size
+        ∙ ap (λ (r : Refusal). judgedOf r w (wordsOf line)) (sym (measured-accepted b m)))
+
+    line-judged : (rest : List ℕ) → bodyOf (goingOn w) (line ++ rest) ≡ bodyOf (runAfter (stoppedBy (readAnswer w b (wordsOf line)))) rest
+    line-judged rest =
+        body-next (goingOn w) (line ++ rest) refl (omega (arith, length-append line rest, line-has-bytes w))
+        ∙ rw (take-at line rest (lineBytes w) size, drop-at line rest (lineBytes w) size) (ap (λ (r : Run). bodyOf r rest) judged-as-read)
+
+    goes-on : readAnswer w b (wordsOf line) .number ≡ 0
+        → runAfter (stoppedBy (readAnswer w b (wordsOf line))) ≡ goingOn (readAnswer w b (wordsOf line) .walk)
+    unfolding judgedOf
+    goes-on z =
+        let e = accepted-judgement _ w _ z in
+        ap (λ (j : Judgement). runAfter (stoppedBy j)) e ∙ sym (ap (λ (j : Judgement). goingOn (j .walk)) e)
+
+    same-bytes : lineBytes (readAnswer w b (wordsOf line) .walk) ≡ lineBytes w
+    same-bytes = ap (λ (r : Run). lineBytes (r .walk)) (sym judged-as-read) ∙ next-line-bytes (goingOn w) line
+
+  -- and all lines, whatever follows
+  run-plays : (lines : List (List ℕ)) (w : Walk) (b : Samples) → Measured b → Each (lineBytes w) lines → (rest : List ℕ)
+      → bodyOf (goingOn w) (flatten lines ++ rest) ≡ bodyOf (runAfter (play w b (map wordsOf lines))) rest
+  unfolding play flatten
+  run-plays [] w b m each rest = refl
+  run-plays (line ∷ lines) w b m each rest =
+      let size = each line (List·Memᴰ·head refl) in
+      let words = wordsOf line in
+      let j = readAnswer w b words in
+      rw append-assoc
+      (line-judged w b m line size (flatten lines ++ rest)
+      ∙ by-test (eqb (j .number) 0)
+      (λ t.
+      let z = eqb-true _ _ t in
+      let measured = buffers-measured w (answered-accepted w b words z .good) b m words z in
+      simp t
+      (ap (λ (r : Run). bodyOf r (flatten lines ++ rest)) (goes-on w b m line size z)
+      ∙ run-plays lines (j .walk) (readBuffers w b words) measured
+      (λ one at. each one (List·Memᴰ·tail at) ∙ sym (same-bytes w b m line size)) rest))
+      (λ f. simp f (body-ended _ _ (eqb-false _ _ f) ∙ sym (body-ended _ _ (eqb-false _ _ f)))))
+
+-- ---- the whole run, behind a header that is accepted
+begun : (bytes : List ℕ) {system start : ℕ} → headerSystem bytes ≡ system → headerStart bytes ≡ start → freshOf system start .number ≡ 0
+    → confirmedOf bytes ≡ bodyOf (goingOn system start (freshWalk system start)) (drop headerLength bytes)
+unfolding confirmedOf begunOf
+begun bytes {system} {start} is-system is-start hf =
+    let f = fresh system start hf in
+    rw (is-system, is-start, fresh-accepted system start (f .a-system) (f .a-line))
+
+confirmed-plays : {bytes rest : List ℕ} {system start : ℕ} {lines : List (List ℕ)} → freshOf system start .number ≡ 0
+    → Holds bytes system start lines rest
+    → confirmedOf bytes ≡ bodyOf (runAfter system start (play (freshOf system start .walk) blank (map wordsOf lines))) rest
+confirmed-plays {bytes} {rest} {system} {start} {lines} hf holds =
+    begun bytes (holds .is-system) (holds .is-start) hf
+    ∙ rw (holds .behind, fresh system start hf .walk)
+    (run-plays system start lines (freshWalk system start) blank blank-measured (holds .whole) rest)
+
+-- ---- a run that ends well had whole lines, and no more than there is room for
+went-on : (r : Run) (bytes : List ℕ) → bodyOf r bytes .number ≡ 0 → r .number ≡ 0
+went-on r bytes z =
+    by-test (eqb (r .number) 0) (λ t. eqb-true _ _ t)
+    (λ f. absurd (eqb-false _ _ f (ap (λ (s : Run). s .number) (sym (body-ended r bytes (eqb-false _ _ f))) ∙ z)))
+
+-- an accepted line: the walk refused none, the line had its bytes, and it was counted
+record Counted (w : Walk) (line : List ℕ) : Type 0 where
+  good : Good w
+  size : length line ≡ lineBytes w
+  one-more : judgedBytes w line .walk .lines ≡ w .lines + 1
+
+accepted-counted : (w : Walk) (line : List ℕ) → judgedBytes w line .number ≡ 0 → Counted w line
+unfolding judgedBytes advancedOf
+accepted-counted w line z =
+    by-test (eqb (walkRefusal w .number) 0)
+    (λ a.
+    record {
+      good = accepted-good w (eqb-true _ _ a);
+      size =
+          by-test (eqb (length line) (lineBytes w)) (λ t. eqb-true _ _ t)
+          (λ f. absurd (never (judged-count w line (eqb-true _ _ a) (eqb-false _ _ f)) (λ e. omega arith)));
+      one-more = ap (λ (j : Judgement). j .walk .lines) (accepted-judgement _ w _ z);
+    })
+    (λ a. absurd (never (judged-walk w line (eqb-false _ _ a)) (eqb-false _ _ a)))
+  where
+    never : {j : Judgement} → judgedBytes w line ≡ j → (j .number ≡ 0 → ⊥) → ⊥
+    never q n = n (ap (λ (j : Judgement). j .number) (sym q) ∙ z)
+
+-- bytes that are whole lines, for which a walk has room
+record WholeLines (w : Walk) (bytes : List ℕ) : Type 0 where
+  lines : List (List ℕ)
+  all : bytes ≡ flatten lines
+  each : Each (lineBytes w) lines
+  room : w .lines ≤ mostLines → w .lines + length lines ≤ mostLines
+
+no-lines : (w : Walk) → WholeLines w []
+unfolding flatten
+no-lines w = record { lines = []; all = refl; each = λ line at. absurd (List·Memᴰ·not-nil at); room = λ h. omega arith }
+
+whole-lines : (k : ℕ) (r : Run) (bytes : List ℕ) → length bytes ≤ k → bodyOf r bytes .number ≡ 0 → WholeLines (r .walk) bytes
+unfolding flatten judgedNext
+whole-lines zero r [] l z = no-lines (r .walk)
+whole-lines zero r (x ∷ bytes) l z = absurd (omega arith)
+whole-lines (suc k) r [] l z = no-lines (r .walk)
+whole-lines (suc k) r (x ∷ bytes) l z =
+    let n = lineBytes (r .walk) in
+    let line = take n (x ∷ bytes) in
+    let rest = drop n (x ∷ bytes) in
+    let on = body-next r (x ∷ bytes) (went-on r (x ∷ bytes) z) (omega arith) in
+    let ends : bodyOf (judgedNext r line) rest .number ≡ 0 = ap (λ (s : Run). s .number) (sym on) ∙ z in
+    let first = accepted-counted (r .walk) line (went-on (judgedNext r line) rest ends) in
+    let others = whole-lines k (judgedNext r line) rest (omega (arith, length-drop n (x ∷ bytes), line-has-bytes (r .walk))) ends in
+    record {
+      lines = line ∷ others .lines;
+      all = sym (take-append-drop n (x ∷ bytes)) ∙ ap (λ (more : List ℕ). line ++ more) (others .all);
+      each = λ one at.
+          ⊎-elim (λ e. ap length e ∙ first .size) (λ there. others .each one there ∙ next-line-bytes r line) (List·Memᴰ·cases-cons at);
+      room = λ h. omega (arith, first .one-more, others .room (omega (arith, first .one-more, first .good .lines)));
+    }
+
+-- a recording has as many samples as lines
+as-many : {system line altered : ℕ} {ps : List Samples} {reads : List (List ℕ)} → Recording system line ps reads altered
+    → length ps ≡ length reads
+as-many end = refl
+as-many (next buffer written dam he hs more) = ap suc (as-many more)
+
+-- A, of the confirming program. A recording of at most 10,000,000 lines, each code altered in at most one bit, is confirmed, and repairs are
+-- exactly the altered codes.
+pub recording-confirmed : {bytes : List ℕ} {system start altered : ℕ} {ps : List Samples} {lines : List (List ℕ)}
+    → freshOf system start .number ≡ 0 → Holds bytes system start lines []
+    → Recording system start ps (map wordsOf lines) altered → length ps ≤ mostLines
+    → confirmedOf bytes
+    ≡ record {
+      system = system;
+      start = start;
+      number = 0;
+      place = 0;
+      walk = record { system = system; line = lineAfterAll system start ps; lines = length ps; repairs = altered };
+    }
+recording-confirmed {system = system} {start = start} hf holds rec hn =
+    confirmed-plays hf holds
+    ∙ ap (λ (p : Played). bodyOf (runAfter system start p) []) (recording-reads-back hf rec hn blank blank-measured)
+    ∙ body-none _
+
+-- C, of the confirming program. Where a code has exactly two of the seven bits inverted and no earlier code more than one, the run ends
+-- with 8 in that code's place, and the walk stands behind the lines before, whatever follows the bad line.
+pub two-inverted-not-confirmed : {bytes rest : List ℕ} {system start altered place : ℕ} {ps : List Samples} {p : Samples}
+    (lines : List (List ℕ)) (bad : List ℕ) → freshOf system start .number ≡ 0 → Holds bytes system start (lines ++ (bad ∷ [])) rest
+    → Recording system start ps (map wordsOf lines) altered → length ps < mostLines
+    → TwoInverted system (lineAfterAll system start ps) p (wordsOf bad) place
+    → confirmedOf bytes
+    ≡ record {
+      system = system;
+      start = start;
+      number = 8;
+      place = place;
+      walk = record { system = system; line = lineAfterAll system start ps; lines = length ps; repairs = altered };
+    }
+two-inverted-not-confirmed {rest = rest} {system = system} {start = start} lines bad hf holds rec hn two =
+    confirmed-plays hf holds
+    ∙ ap (λ (p : Played). bodyOf (runAfter system start p) rest)
+    (ap (play (freshOf system start .walk) blank) (map-append wordsOf lines (bad ∷ []))
+    ∙ two-inverted-refused hf rec hn two [] blank blank-measured)
+    ∙ body-ended _ rest (λ z. omega arith)
+
+-- D, of the confirming program. Nothing else is ever confirmed: of any bytes that are, the header is accepted, all behind it are whole lines,
+-- and these are such an image of the recording that the writer gives for some samples; repairs are its altered codes.
+pub confirmed-is-recording : (bytes : List ℕ) → confirmedOf bytes .number ≡ 0
+    → (freshOf (headerSystem bytes) (headerStart bytes) .number ≡ 0)
+    × (lines : List (List ℕ)) × Holds bytes (headerSystem bytes) (headerStart bytes) lines []
+    × (ps : List Samples) × Recording (headerSystem bytes) (headerStart bytes) ps (map wordsOf lines) (confirmedOf bytes .walk .repairs)
+    × (length ps ≤ mostLines)
+unfolding confirmedOf begunOf
+confirmed-is-recording bytes z =
+    let system = headerSystem bytes in
+    let start = headerStart bytes in
+    let body = drop headerLength bytes in
+    let hf : freshOf system start .number ≡ 0 = went-on (begunOf bytes) body z in
+    let ends = ap (λ (r : Run). r .number) (sym (begun bytes refl refl hf)) ∙ z in
+    let cut = whole-lines (length body) (goingOn system start (freshWalk system start)) body (omega arith) ends in
+    let lines = cut .lines in
+    let behind = cut .all ∙ sym (append-nil (flatten lines)) in
+    let holds : Holds bytes system start lines [] = record { is-system = refl; is-start = refl; behind = behind; whole = cut .each } in
+    let played = confirmed-plays hf holds ∙ body-none _ in
+    let accepted = ap (λ (r : Run). r .number) (sym played) ∙ z in
+    let altered = ap (λ (r : Run). r .walk .repairs) (sym played) in
+    let read = read-through-is-recording system start hf (map wordsOf lines) blank blank-measured accepted in
+    let rec = subst (Recording system start (read .0) (map wordsOf lines)) altered (read .1) in
+    (hf, lines, holds, read .0, rec, omega (arith, as-many rec, length-map lines wordsOf, cut .room (omega arith)))
