@@ -1,6 +1,8 @@
 // The confirming program: reads a recording from standard input and prints five lines. All that it decides is in `confirmation`.
 ghost use Prim.Native.Nat.{_≤_};
 ghost use lib.ListN.{length};
+ghost use Rattle.system.specs.declared.System.the-variants.{Lines625};
+ghost use Rattle.system.specs.Figures.{lineLength};
 use confirmation::Outcome;
 use confirmation::Run;
 use libc::STDERR_FILENO;
@@ -9,9 +11,9 @@ use libc::STDOUT_FILENO;
 use system::Walk;
 
 // How many lines the buffer holds: a whole number, so that no bytes are ever moved. A live pipe's lines are judged as they come.
-const LINES_HELD: usize = 18;
+const LINES_HELD: usize = 48;
 
-// The longest line has 1728 words of two bytes.
+// Room for so many of the longer lines, two bytes a word.
 const ROOM: usize = LINES_HELD * 2 * system::System625::LINE_LENGTH;
 
 // How many reads pass between two reports of progress.
@@ -174,7 +176,7 @@ fn fail() {
 
 // The words of the line that a walk awaits.
 fn line_length(walk: Walk) -> usize
-    ensures { λ r. ⌜ r ≤ 1728 ⌝ }
+    ensures { λ r. ⌜ r ≤ lineLength Lines625 ⌝ }
 {
     system::system_of(walk.system).line_length()
 }
