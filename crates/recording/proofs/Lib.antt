@@ -3,4 +3,5 @@ pub mod Lines
 pub mod Theorems
 pub mod PerLine
 pub mod Samples
+pub mod OneResult
 pub mod Confirmed
