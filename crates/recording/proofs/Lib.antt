@@ -5,3 +5,4 @@ pub mod PerLine
 pub mod Samples
 pub mod OneResult
 pub mod Confirmed
+pub mod Promise

@@ -2,3 +2,4 @@ pub mod Recording
 pub mod Play
 pub mod Marked
 pub mod Confirmed
+pub mod Promise

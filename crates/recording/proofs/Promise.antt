@@ -1,0 +1,26 @@
+-- The statements of specs/Promise hold: the theorems under their statements' names. Assumes nothing.
+use Rattle.recording.specs.Promise.{ReadsBack, NeverCoincide, TwoInvertedStops, NothingElse, Confirms, RefusesTwoInverted, ConfirmsNothingElse}
+use Rattle.recording.proofs.Theorems.{recording-reads-back, damaged-never-coincide, two-inverted-refused, read-through-is-recording}
+use Rattle.recording.proofs.Confirmed.{recording-confirmed, two-inverted-not-confirmed, confirmed-is-recording}
+
+pub reads-back : ReadsBack
+reads-back system start altered ps reads buffers hf m rec few = recording-reads-back hf rec few buffers m
+
+pub never-coincide : NeverCoincide
+never-coincide system start k l ps qs reads hf one two few fewer = damaged-never-coincide hf one two few fewer
+
+pub two-inverted-stops : TwoInvertedStops
+two-inverted-stops system start altered place ps reads p read rest buffers hf m rec few two = two-inverted-refused hf rec few two rest buffers m
+
+pub nothing-else : NothingElse
+nothing-else system start reads buffers hf m through = read-through-is-recording system start hf reads buffers m through
+
+pub confirms : Confirms
+confirms bytes system start altered ps lines hf holds rec few = recording-confirmed hf holds rec few
+
+pub refuses-two-inverted : RefusesTwoInverted
+refuses-two-inverted bytes rest bad system start altered place ps p lines hf holds rec few two =
+    two-inverted-not-confirmed lines bad hf holds rec few two
+
+pub confirms-nothing-else : ConfirmsNothingElse
+confirms-nothing-else = confirmed-is-recording

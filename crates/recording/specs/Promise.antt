@@ -1,0 +1,83 @@
+-- Demand 3 as statements: what the product exists for. Each is proved under the name that stands behind it.
+use Prim.Native.Nat.{ℕ, _<_, _≤_}
+use mathlib.Core.Path.{_≡_}
+use mathlib.Core.List.{List, [], _∷_, _++_, map}
+use lib.ListN.{length}
+use Rattle.system.specs.declared.Walk.{Walk}
+use Rattle.system.specs.Walk.{mostLines, freshOf}
+use Rattle.line.specs.Samples.{Samples}
+use Rattle.line.specs.Fit.{Measured}
+use Rattle.lent.specs.Bytes.{wordsOf}
+use Rattle.confirmation.specs.declared.Run.{Run}
+use Rattle.confirmation.specs.Run.{headerSystem, headerStart, confirmedOf}
+use Rattle.recording.specs.Recording.{Recording, TwoInverted, pictures, lineAfterAll}
+use Rattle.recording.specs.Play.{Played, play}
+use Rattle.recording.specs.Confirmed.{Holds}
+
+-- the walk after a recording of these samples, with so many altered codes
+abbrev pub walkAfter : ℕ → ℕ → List Samples → ℕ → Walk
+walkAfter system start ps altered =
+    record { system = system; line = lineAfterAll system start ps; lines = length ps; repairs = altered }
+
+-- A (`reads-back`). Reading a recording of at most 10,000,000 lines, each code altered in at most one of its seven bits, from a fresh walk
+-- and with buffers of the right lengths: accepted to its end, every written sample of every V = 0 line returned, repairs the altered codes.
+abbrev pub ReadsBack : Type 0
+ReadsBack =
+    (system start altered : ℕ) (ps : List Samples) (reads : List (List ℕ)) (buffers : Samples)
+    → freshOf system start .number ≡ 0 → Measured buffers
+    → Recording system start ps reads altered → length ps ≤ mostLines
+    → _≡_ {A = Played} (play (freshOf system start .walk) buffers reads)
+    (record { pictures = pictures system start ps; number = 0; place = 0; walk = walkAfter system start ps altered })
+
+-- B (`never-coincide`). Where two such recordings are read as the same lines, the same samples were written.
+abbrev pub NeverCoincide : Type 0
+NeverCoincide =
+    (system start k l : ℕ) (ps qs : List Samples) (reads : List (List ℕ)) → freshOf system start .number ≡ 0
+    → Recording system start ps reads k → Recording system start qs reads l → length ps ≤ mostLines → length qs ≤ mostLines
+    → pictures system start ps ≡ pictures system start qs
+
+-- C (`two-inverted-stops`). Where a code then has exactly two of the seven inverted, and no earlier code more than one: the lines before are
+-- returned, that code is refused with 8 in its place, and the walk stands, whatever follows.
+abbrev pub TwoInvertedStops : Type 0
+TwoInvertedStops =
+    (system start altered place : ℕ) (ps : List Samples) (reads : List (List ℕ)) (p : Samples) (read : List ℕ) (rest : List (List ℕ))
+    (buffers : Samples) → freshOf system start .number ≡ 0 → Measured buffers
+    → Recording system start ps reads altered → length ps < mostLines
+    → TwoInverted system (lineAfterAll system start ps) p read place
+    → _≡_ {A = Played} (play (freshOf system start .walk) buffers (reads ++ (read ∷ rest)))
+    (record { pictures = pictures system start ps; number = 8; place = place; walk = walkAfter system start ps altered })
+
+-- D (`nothing-else`). Lines that are read through are such a recording of the samples returned, and repairs are its altered codes.
+abbrev pub NothingElse : Type 0
+NothingElse =
+    (system start : ℕ) (reads : List (List ℕ)) (buffers : Samples) → freshOf system start .number ≡ 0 → Measured buffers
+    → play (freshOf system start .walk) buffers reads .number ≡ 0
+    → (ps : List Samples) × Recording system start ps reads (play (freshOf system start .walk) buffers reads .walk .repairs)
+    × (play (freshOf system start .walk) buffers reads .pictures ≡ pictures system start ps)
+
+-- A of the confirming program (`confirms`).
+abbrev pub Confirms : Type 0
+Confirms =
+    (bytes : List ℕ) (system start altered : ℕ) (ps : List Samples) (lines : List (List ℕ)) → freshOf system start .number ≡ 0
+    → Holds bytes system start lines [] → Recording system start ps (map wordsOf lines) altered → length ps ≤ mostLines
+    → _≡_ {A = Run} (confirmedOf bytes)
+    (record { system = system; start = start; walk = walkAfter system start ps altered; number = 0; place = 0 })
+
+-- C of the confirming program (`refuses-two-inverted`).
+abbrev pub RefusesTwoInverted : Type 0
+RefusesTwoInverted =
+    (bytes rest bad : List ℕ) (system start altered place : ℕ) (ps : List Samples) (p : Samples) (lines : List (List ℕ))
+    → freshOf system start .number ≡ 0 → Holds bytes system start (lines ++ (bad ∷ [])) rest
+    → Recording system start ps (map wordsOf lines) altered → length ps < mostLines
+    → TwoInverted system (lineAfterAll system start ps) p (wordsOf bad) place
+    → _≡_ {A = Run} (confirmedOf bytes)
+    (record { system = system; start = start; walk = walkAfter system start ps altered; number = 8; place = place })
+
+-- D of the confirming program (`confirms-nothing-else`): whatever bytes it confirms hold such a recording, header, lines and no more.
+abbrev pub ConfirmsNothingElse : Type 0
+ConfirmsNothingElse =
+    (bytes : List ℕ) → confirmedOf bytes .number ≡ 0
+    → (freshOf (headerSystem bytes) (headerStart bytes) .number ≡ 0)
+    × (lines : List (List ℕ)) × Holds bytes (headerSystem bytes) (headerStart bytes) lines []
+    × (ps : List Samples) × Recording (headerSystem bytes) (headerStart bytes) ps (map wordsOf lines) (confirmedOf bytes .walk .repairs)
+    × (length ps ≤ mostLines)
