@@ -53,7 +53,7 @@ judgementOf r w report = cond (eqb (r .number) 0) (acceptedAt w report) (refused
 unfoldable pub judgedOf : Refusal → Walk → List ℕ → Judgement
 judgedOf buffers w words = judgementOf (readRefusal buffers w words) w (reportOf (dueIn w words) words)
 
--- A sample buffer afterwards: "samples written only on acceptance and only on V = 0 lines".
+-- A sample buffer afterwards: "No refusal writes a buffer", and with V = 1 it is "neither looked at nor written".
 unfoldable pub bufferAfter : Judgement → Due → List ℕ → List ℕ → List ℕ
 bufferAfter j d samples before = cond (eqb (j .number) 0) (cond (d .v) before samples) before
 

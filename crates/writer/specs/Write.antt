@@ -33,7 +33,7 @@ writeRefusal system line p room =
     ∷ sampleRefusal (dueOf (systemOf system) line) p
     ∷ [])
 
--- "A refusal leaves the line as it was."
+-- the line afterwards: "No refusal writes a buffer."
 unfoldable pub lineAfter : ℕ → ℕ → Samples → List ℕ → List ℕ
 lineAfter system line p before =
     cond (eqb (writeRefusal system line p (length before) .number) 0) (lineOf (dueOf (systemOf system) line) p) before
