@@ -1,14 +1,11 @@
 // The confirming program: reads a recording from standard input and prints five lines. All that it decides is in `confirmation`.
-ghost use Prim.Native.Nat.{_≤_};
+ghost use Prim.Native.Nat.{_*_, _≤_};
 ghost use lib.ListN.{length};
 ghost use Rattle.system.specs.declared.System.the-variants.{Lines625};
 ghost use Rattle.system.specs.Figures.{lineLength};
-use confirmation::Outcome;
 use confirmation::Run;
-use libc::STDERR_FILENO;
 use libc::STDIN_FILENO;
 use libc::STDOUT_FILENO;
-use system::Walk;
 
 // How many lines the buffer holds: a whole number, so that no bytes are ever moved. A live pipe's lines are judged as they come.
 const LINES_HELD: usize = 48;
@@ -95,15 +92,6 @@ fn turn(run: Run, at: usize, have: usize, buffer: &mut [u8]) -> Input
     }
 }
 
-// How far the run is, on one line of a terminal.
-fn show(run: Run) {
-    let walk = run.walk;
-    io::write_all(STDERR_FILENO, b"\rlines ");
-    io::print_decimal(STDERR_FILENO, walk.lines as u64);
-    io::write_all(STDERR_FILENO, b" repairs ");
-    io::print_decimal(STDERR_FILENO, walk.repairs as u64);
-}
-
 // Follows the run to the end of the input or its first refusal. A proved loop has to end, and nothing says that the input does: the
 // turns count down from a number that no run uses up.
 fn follow(run: Run, buffer: &mut [u8], is_shown: bool) -> Input {
@@ -119,97 +107,46 @@ fn follow(run: Run, buffer: &mut [u8], is_shown: bool) -> Input {
         input = turn(input.run, input.at, input.have, buffer);
         turns -= 1;
         if is_shown && turns % READS_A_REPORT == 0 {
-            show(input.run);
+            let next = input.run;
+            console::show(next.walk);
         }
     }
     input
 }
 
-// What a header's four bytes were filled with.
-struct Header {
-    have: usize,
-    is_failed: bool,
-}
-
-// Reads until the buffer is full, the input ends or a read fails.
-fn fill(buffer: &mut [u8]) -> Header
-    ensures { λ r. ⌜ r .have ≤ length (now (buffer .exit)) ⌝ }
-{
-    let mut have: usize = 0;
-    while have < buffer.len() {
-        let got = libc::read(STDIN_FILENO, &mut buffer[have..]);
-        let more = io::count(got, &buffer[have..]);
-        if more == 0 {
-            return Header {
-                have,
-                is_failed: got < 0,
-            };
-        }
-        have += more;
+// Says the run's five lines.
+fn print(run: Run) {
+    if !console::print_outcome(STDOUT_FILENO, run.outcome()) {
+        console::say_unwritten(b"confirm");
     }
-    Header {
-        have,
-        is_failed: false,
-    }
-}
-
-fn say(name: &[u8], number: u64) {
-    io::write_all(STDOUT_FILENO, name);
-    io::print_decimal(STDOUT_FILENO, number);
-}
-
-fn print(outcome: Outcome) {
-    say(b"SYSTEM ", outcome.system as u64);
-    say(b"\nSTART ", outcome.start as u64);
-    say(b"\nLINES ", outcome.lines as u64);
-    say(b"\nREPAIRS ", outcome.repairs as u64);
-    say(b"\nRESULT ", outcome.number as u64);
-    say(b" ", outcome.line as u64);
-    say(b" ", outcome.place as u64);
-    io::write_all(STDOUT_FILENO, b"\n");
-}
-
-// No result is printed where the input could not be read: a shorter file must not be confirmed in its place.
-fn fail() {
-    io::write_all(STDERR_FILENO, b"confirm: the input could not be read\n");
-}
-
-// The words of the line that a walk awaits.
-fn line_length(walk: Walk) -> usize
-    ensures { λ r. ⌜ r ≤ lineLength Lines625 ⌝ }
-{
-    system::system_of(walk.system).line_length()
 }
 
 // The lines behind the header, in a buffer that is cut to a whole number of them.
-fn confirm(run: Run, buffer: &mut [u8]) {
+fn confirm(run: Run, buffer: &mut [u8])
+    requires { ⌜ 96 * lineLength Lines625 ≤ length (now buffer) ⌝ }
+{
     if run.number != 0 {
-        print(run.outcome());
+        print(run);
         return;
     }
-    let walk = run.walk;
-    let size = 2 * LINES_HELD * line_length(walk);
-    if buffer.len() < size {
-        fail();
-        return;
-    }
-    let is_shown = libc::isatty(STDERR_FILENO) == 1;
+    let size = LINES_HELD * confirmation::line_bytes(run.walk);
+    let is_shown = console::is_shown();
     let input = follow(run, &mut buffer[0..size], is_shown);
     if is_shown {
-        io::write_all(STDERR_FILENO, b"\r");
+        console::end_show();
     }
     if input.is_failed {
-        fail();
+        console::say_unread(b"confirm");
         return;
     }
-    print(input.run.outcome());
+    print(input.run);
 }
 
 fn main() {
     let mut header = [0u8; 4];
-    let filled = fill(&mut header);
+    let filled = console::fill(&mut header);
     if filled.is_failed {
-        fail();
+        console::say_unread(b"confirm");
         return;
     }
     let have = filled.have;

@@ -1,6 +1,8 @@
 // What the confirming program decides: a run over the bytes of a recording, however they arrive.
 ghost use mathlib.Core.Path.{_≡_};
 ghost use Prim.Native.Nat.{_+_, _*_, _≤_};
+ghost use Rattle.system.specs.declared.System.the-variants.{Lines625};
+ghost use Rattle.system.specs.Figures.{lineLength};
 ghost use Rattle.confirmation.specs.Run.{headerLength, headerWord, begunOf, lineBytes, judgedNext, outcomeOf};
 ghost use Rattle.confirmation.specs.Follow.{followedOf, closedOf};
 use system::Walk;
@@ -52,9 +54,10 @@ fn header_word(header: &[u8], at: usize) -> u32
     word(header[at], header[at + 1])
 }
 
-// The bytes of the line that a walk awaits.
-fn line_bytes(walk: Walk) -> usize
-    ensures { λ r. ⌜ r ≡ lineBytes walk ⌝ }
+// The bytes of the line that a walk awaits: at most those of the longer line.
+pub fn line_bytes(walk: Walk) -> usize
+    ensures bytes { λ r. ⌜ r ≡ lineBytes walk ⌝ }
+    ensures most { λ r. ⌜ r ≤ 2 * lineLength Lines625 ⌝ }
 {
     2 * system::system_of(walk.system).line_length()
 }

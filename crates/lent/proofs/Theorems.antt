@@ -22,9 +22,13 @@ use Rattle.line.specs.Fault.{wordRefusal}
 use Rattle.line.proofs.Theorems.{words-exact, words-decide}
 use Rattle.reader.specs.declared.Judgement.{Judgement}
 use Rattle.reader.specs.Judge.{dueIn, readRefusal, reportOf, refusedAt, acceptedAt, judgementOf, judgedOf}
-use Rattle.lent.specs.Bytes.{wordsOf, bytesRefusal, judgedBytes}
-use Rattle.lent.specs.Refusals.{bytesRefusals}
+use Rattle.lent.specs.Bytes.{wordsOf, bytesOf, pairsRefusal, filledBy, bytesRefusal, judgedBytes}
+use Rattle.lent.specs.Refusals.{bytesRefusals, pairsRefusals}
 use Rattle.lent.proofs.Bytes.{words-length}
+-- Words that are given as bytes are taken as the same words, and bytes that are taken as words are given as the same bytes.
+pub use Rattle.lent.proofs.Bytes.{words-back, bytes-back}
+-- A refused call leaves the buffer as it was.
+pub use Rattle.lent.proofs.Bytes.{filled-accepted, filled-refused}
 
 -- the same test of lengths, of bytes and of words
 same-test : (m n : ℕ) → eqb (2 * m) (2 * n) ≡ eqb m n
@@ -83,3 +87,25 @@ module _ (w : Walk) (bytes : List ℕ) where
   -- ---- Two results allowed for one input are the same.
   pub bytes-one-result : (r s : Judgement) → r ≡ judgedBytes w bytes → s ≡ judgedBytes w bytes → r ≡ s
   bytes-one-result r s e f = e ∙ sym f
+
+-- ---- Words as bytes: 3 exactly where the bytes are not twice the words, which leaves one answer.
+module _ (bytes words : ℕ) where
+  pub pairs-exact : Keeps (pairsRefusals bytes words) (pairsRefusal bytes words)
+  pairs-exact =
+      keeps-when (not (eqb bytes (2 * words))) (bytes ≡ 2 * words → ⊥) 3 0
+      (λ t. eqb-false bytes (2 * words) (not-true _ t)) (λ ne. ap not (ne-eqb bytes (2 * words) ne)) (λ z. omega arith)
+
+  pub pairs-decide : Decides (pairsRefusals bytes words)
+  pairs-decide = decides-when (bytes ≡ 2 * words → ⊥) 3 0
+
+-- Two results allowed for one input are the same: the answer and every word or byte.
+module _ (given held : List ℕ) (r s : Refusal) (after other : List ℕ) where
+  pub to-words-one-result : r ≡ pairsRefusal (length given) (length held) → after ≡ filledBy r (wordsOf given) held
+      → s ≡ pairsRefusal (length given) (length held) → other ≡ filledBy s (wordsOf given) held → (r ≡ s) × (after ≡ other)
+  to-words-one-result a b c d =
+      (a ∙ sym c, b ∙ ap (λ (x : Refusal). filledBy x (wordsOf given) held) (a ∙ sym c) ∙ sym d)
+
+  pub to-bytes-one-result : r ≡ pairsRefusal (length held) (length given) → after ≡ filledBy r (bytesOf given) held
+      → s ≡ pairsRefusal (length held) (length given) → other ≡ filledBy s (bytesOf given) held → (r ≡ s) × (after ≡ other)
+  to-bytes-one-result a b c d =
+      (a ∙ sym c, b ∙ ap (λ (x : Refusal). filledBy x (bytesOf given) held) (a ∙ sym c) ∙ sym d)

@@ -16,3 +16,7 @@ bytesRefusals w bytes =
     walkRefusals w
     before when (length bytes ≡ 2 * lineLength (systemOf (w .system)) → ⊥) 3 0
     before wordRefusals (dueIn w (wordsOf bytes)) (wordsOf bytes)
+
+-- words as bytes, either way
+abbrev pub pairsRefusals : ℕ → ℕ → Row
+pairsRefusals bytes words = when (bytes ≡ 2 * words → ⊥) 3 0

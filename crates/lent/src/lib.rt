@@ -1,7 +1,9 @@
-// Judging a line that is lent as bytes, two per word, low byte first.
+// Words as bytes, two per word, low byte first, and judging a line that is lent so.
 mod pass;
 mod words;
 
+pub use words::to_bytes;
+pub use words::to_words;
 ghost use mathlib.Core.Path.{_≡_};
 ghost use Prim.Native.Nat.{_*_, _≤_};
 ghost use lib.ListN.{length};

@@ -1,4 +1,5 @@
 pub mod Tabs
+pub mod Stores
 pub mod Dues
 pub mod Faults
 pub mod Theorems

@@ -1,6 +1,6 @@
 mod Tests
 mod Parts
 mod Passes
-mod Stores
 pub mod Judged
+pub mod Splits
 pub mod Theorems

@@ -1,3 +1,4 @@
 pub mod Judge
+pub mod Split
 pub mod Refusals
 pub mod Passes

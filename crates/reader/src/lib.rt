@@ -15,6 +15,7 @@ ghost use Rattle.line.specs.Due.{dueOf};
 ghost use Rattle.line.specs.Lengths.{bufferRefusal};
 ghost use Rattle.line.specs.Samples.{ysFrom, cbsFrom, crsFrom};
 ghost use Rattle.reader.specs.Judge.{dueIn, reportOf, judgedOf, refusedAt, bufferAfter, activeOf};
+ghost use Rattle.reader.specs.Split.{splitRefusal, splitAfter};
 use crate::pass::first_fault;
 use crate::take::take;
 use line::Due;
@@ -177,4 +178,32 @@ pub fn active(walk: Walk, words: &[u16]) -> &[u16]
     let start = active_offset(system::system_of(walk.system));
     let end = start + ACTIVE_LENGTH;
     &words[start..end]
+}
+
+// What is wrong with the lengths of an active part and of sample buffers: 3 at the lowest place.
+fn split_refusal(part: usize, y: usize, cb: usize, cr: usize) -> Refusal
+    ensures { λ r. ⌜ r ≡ splitRefusal part y cb cr ⌝ }
+{
+    if part != ACTIVE_LENGTH {
+        return Refusal {
+            number: 3,
+            place: 0,
+        };
+    }
+    line::buffer_refusal(y, cb, cr)
+}
+
+// Takes the samples of an active part, such as `active` lends, into Y, CB and CR: 3 where a length is wrong, and then none is written.
+pub fn split(part: &[u16], y: &mut [u16], cb: &mut [u16], cr: &mut [u16]) -> Refusal
+    ensures answer { λ r. ⌜ r ≡ splitRefusal (length (now (part .entry))) (length (now (y .entry))) (length (now (cb .entry))) (length (now (cr .entry))) ⌝ }
+    ensures ys { λ r. ⌜ now (y .exit) ≡ splitAfter r (ysFrom 0 (now (part .entry))) (now (y .entry)) ⌝ }
+    ensures cbs { λ r. ⌜ now (cb .exit) ≡ splitAfter r (cbsFrom 0 (now (part .entry))) (now (cb .entry)) ⌝ }
+    ensures crs { λ r. ⌜ now (cr .exit) ≡ splitAfter r (crsFrom 0 (now (part .entry))) (now (cr .entry)) ⌝ }
+{
+    let refusal = split_refusal(part.len(), y.len(), cb.len(), cr.len());
+    if refusal.number != 0 {
+        return refusal;
+    }
+    take(part, 0, y, cb, cr);
+    refusal
 }

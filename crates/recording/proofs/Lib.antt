@@ -6,3 +6,7 @@ pub mod Samples
 pub mod OneResult
 pub mod Confirmed
 pub mod Promise
+pub mod Rows
+pub mod RecordedLines
+pub mod ExtractedLines
+pub mod Programme

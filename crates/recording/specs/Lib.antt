@@ -3,3 +3,4 @@ pub mod Play
 pub mod Marked
 pub mod Confirmed
 pub mod Promise
+pub mod Programme

@@ -7,4 +7,5 @@ pub mod Coding
 pub mod Small
 pub mod Refusals
 pub mod Answers
+pub mod Pieces
 pub mod Theorems

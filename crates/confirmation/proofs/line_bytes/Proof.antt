@@ -20,7 +20,11 @@ mul-result c =
     omega (arith, c .line-length .ensures, line-is-parts s, sav-high s)
 
 returns : tie.Need-returns
-returns c = ap (λ (n : ℕ). 2 * n) (c .line-length .ensures ∙ ap lineLength (c .before .system-of .ensures))
+returns c =
+    let s = c .before .system-of .result in (
+      ap (λ (n : ℕ). 2 * n) (c .line-length .ensures ∙ ap lineLength (c .before .system-of .ensures)),
+      omega (arith, c .line-length .ensures, line-is-parts s, sav-high s),
+    )
 
 pub line-bytes-spec : {M : Type 1} → statement M
 line-bytes-spec = tie.close (tie.spec system-of-requires line-length-requires mul-result returns)

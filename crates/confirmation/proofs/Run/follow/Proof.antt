@@ -21,7 +21,7 @@ line-bytes-requires : tie.Need-line-bytes-requires Inv-loop μ-loop
 line-bytes-requires c κs = search needs
 
 loop-holds : tie.Need-loop-holds Inv-loop μ-loop
-loop-holds c = reached-start _ _ _ (c .line-bytes .ensures)
+loop-holds c = reached-start _ _ _ (c .line-bytes .ensures .0)
 
 refusal-requires : tie.Need-refusal-requires Inv-loop μ-loop
 refusal-requires c κs = search needs

@@ -1,10 +1,10 @@
--- `confirm::fill` is safe and ends: each turn reads at least one byte into what is left of the buffer. Assumes nothing.
+-- `console::fill` is safe and ends: each turn reads at least one byte into what is left of the buffer. Assumes nothing.
 use borrow.Author.Needs.{needs}
 use Prim.Native.Nat.{_≤_, _-_}
 use mathlib.Core.Path.{_≡_}
 use lib.ListN.{length}
-use Rattle.confirm.proofs.fill.Statement.{statement}
-use Rattle.confirm.proofs.fill.Tie as tie
+use Rattle.console.proofs.fill.Statement.{statement}
+use Rattle.console.proofs.fill.Tie as tie
 
 abbrev Inv-loop : tie.InvT-loop
 Inv-loop buffer₀ have₀ buffer have = (have ≤ length buffer) × (length buffer ≡ length buffer₀)

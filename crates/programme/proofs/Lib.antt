@@ -1,0 +1,4 @@
+pub mod Records
+pub mod RecordTheorems
+pub mod Extracts
+pub mod ExtractTheorems

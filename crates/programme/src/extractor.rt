@@ -1,0 +1,74 @@
+// Extracting a line: the active part of a line's bytes as a row.
+ghost use mathlib.Core.Path.{_≡_};
+ghost use Prim.Native.Nat.{ℕ, _*_, _<_, _≤_};
+ghost use lib.ListN.{length, getD};
+ghost use Rattle.line.specs.Samples.{activeLength};
+ghost use Rattle.lent.specs.Bytes.{wordsOf};
+ghost use Rattle.v210.specs.Row.{rowLength, packedOf};
+ghost use Rattle.programme.specs.Extract.{extractedOf, rowAfterLine};
+use crate::ACTIVE_LENGTH;
+use crate::takes_row;
+use reader::Judgement;
+use refusal::Refusal;
+use system::Walk;
+
+// Packs an active part's bytes into a row, by way of room for its words.
+fn pack_in(active: &[u8], part: &mut [u16], row: &mut [u8])
+    requires { ⌜ (length (now active) ≡ 2 * activeLength) × (length (now part) ≡ activeLength) × (length (now row) ≡ rowLength) ⌝ }
+    requires { ⌜ ((i : ℕ) → i < activeLength → getD (wordsOf (now active)) i 0 ≤ 1023) ⌝ }
+    ensures { λ _. ⌜ now (row .exit) ≡ packedOf (wordsOf (now (active .entry))) ⌝ }
+{
+    lent::to_words(active, part);
+    v210::pack(part, row);
+}
+
+// The same, with room of its own.
+fn pack_active(active: &[u8], row: &mut [u8])
+    requires { ⌜ (length (now active) ≡ 2 * activeLength) × (length (now row) ≡ rowLength) ⌝ }
+    requires { ⌜ ((i : ℕ) → i < activeLength → getD (wordsOf (now active)) i 0 ≤ 1023) ⌝ }
+    ensures { λ _. ⌜ now (row .exit) ≡ packedOf (wordsOf (now (active .entry))) ⌝ }
+{
+    let mut part = [0u16; ACTIVE_LENGTH];
+    pack_in(active, &mut part, row);
+}
+
+// Extracts the line that a walk awaits from its bytes: judges it, and where it is accepted and its V is 0, packs its active part into the
+// row. Refused as the byte judge refuses it, and with 3 at 1, in 3's turn, for the row's length. Otherwise the row stays as it was.
+pub fn extract(walk: Walk, bytes: &[u8], row: &mut [u8]) -> Judgement
+    ensures answer { λ r. ⌜ r ≡ extractedOf walk (now (bytes .entry)) (length (now (row .entry))) ⌝ }
+    ensures row { λ r. ⌜ now (row .exit) ≡ rowAfterLine walk (now (bytes .entry)) (now (row .entry)) ⌝ }
+{
+    let standing = walk.refusal();
+    if standing.number != 0 {
+        return Judgement::refused(walk, standing);
+    }
+    let size = 2 * system::system_of(walk.system).line_length();
+    if bytes.len() != size {
+        return Judgement::refused(
+            walk,
+            Refusal {
+                number: 3,
+                place: 0,
+            },
+        );
+    }
+    if row.len() != v210::ROW_LENGTH {
+        return Judgement::refused(
+            walk,
+            Refusal {
+                number: 3,
+                place: 1,
+            },
+        );
+    }
+    let judgement = lent::judge(walk, bytes);
+    if judgement.number != 0 {
+        return judgement;
+    }
+    if !takes_row(walk) {
+        return judgement;
+    }
+    let start = size - 2 * ACTIVE_LENGTH;
+    pack_active(&bytes[start..size], row);
+    judgement
+}

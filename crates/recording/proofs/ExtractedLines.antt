@@ -1,0 +1,99 @@
+-- Extracting line by line goes as reading the lines' words does: the same answers, and of each V = 0 line the row of its samples. So the
+-- theorem on reading a recording carries over. Assumes nothing.
+use Prim.Native.Nat.{ℕ, _*_}
+use mathlib.Core.Path.{_≡_, refl, sym, ap, _∙_}
+use mathlib.Core.List.{List, [], _∷_, map}
+use mathlib.Core.List.{List·Memᴰ·head, List·Memᴰ·tail}
+use mathlib.Core.Bool.{Bool, true, false, cond, not}
+use lib.Dec.{eqb}
+use lib.ListN.{length}
+use borrow.Author.Tests.{eqb-true}
+use Rattle.refusal.specs.declared.Refusal.{Refusal}
+use Rattle.refusal.specs.Answer.{orElse}
+use Rattle.refusal.proofs.Cases.{by-test}
+use Rattle.system.specs.declared.Walk.{Walk}
+use Rattle.system.specs.Figures.{lineLength, vOf, systemOf}
+use Rattle.system.specs.Walk.{advancedOf}
+use Rattle.line.specs.Due.{dueOf}
+use Rattle.line.specs.Lengths.{bufferRefusal}
+use Rattle.line.specs.Samples.{Samples}
+use Rattle.line.specs.Fit.{Measured}
+use Rattle.reader.specs.declared.Judgement.{Judgement}
+use Rattle.reader.specs.Judge.{dueIn, judgedOf}
+use Rattle.reader.proofs.Judged.{answered, judged-accepted}
+use Rattle.lent.specs.Bytes.{wordsOf, bytesRefusal, judgedBytes}
+use Rattle.lent.proofs.Theorems.{bytes-as-words}
+use Rattle.v210.specs.Row.{rowLength}
+use Rattle.programme.specs.Record.{takesRow}
+use Rattle.programme.specs.Extract.{extractRefusal, extractedOf, rowOfLine}
+use Rattle.recording.specs.Play.{readAnswer, readBuffers, Played, andThen, play}
+use Rattle.recording.specs.Programme.{Extracted, rowThen, refusedBy, extractAll, rowOf, Whole}
+use Rattle.recording.proofs.OneLine.{measured-accepted, picture-buffers, buffers-measured, answered-accepted}
+use Rattle.recording.proofs.Rows.{active-part-of-samples}
+
+-- what is extracted of lines that are read so
+abbrev pub extractedAs : Played → Extracted
+extractedAs r = record { rows = map rowOf (r .pictures); number = r .number; place = r .place; walk = r .walk }
+
+-- a line's row before those behind it
+row-before : (v : Bool) (row : List ℕ) (p : Samples) (rest : Played) → (v ≡ false → row ≡ rowOf p)
+    → rowThen (not v) row (extractedAs rest) ≡ extractedAs (andThen v p rest)
+row-before true row p rest same = refl
+row-before false row p rest same = ap (λ (r : List ℕ). rowThen true r (extractedAs rest)) (same refl)
+
+-- a row of the right length is not refused: the answer is the byte judge's
+extracted-as-judged : (w : Walk) (bytes : List ℕ) → extractedOf w bytes rowLength ≡ judgedBytes w bytes
+unfolding extractedOf extractRefusal judgedBytes bytesRefusal orElse
+extracted-as-judged w bytes = refl
+
+-- ---- one line
+module _ (w : Walk) (b : Samples) (m : Measured b) (bytes : List ℕ) (size : length bytes ≡ 2 * lineLength (systemOf (w .system))) where
+  extracted-as-read : extractedOf w bytes rowLength ≡ readAnswer w b (wordsOf bytes)
+  extracted-as-read =
+      extracted-as-judged w bytes ∙ bytes-as-words w bytes (lineLength (systemOf (w .system))) size
+      ∙ ap (λ (r : Refusal). judgedOf r w (wordsOf bytes)) (sym (measured-accepted b m))
+
+  module _ (accepted : readAnswer w b (wordsOf bytes) .number ≡ 0) where
+    same-system : readAnswer w b (wordsOf bytes) .walk .system ≡ w .system
+    unfolding advancedOf
+    same-system =
+        let buffers = bufferRefusal (length (b .y)) (length (b .cb)) (length (b .cr)) in
+        ap (λ (j : Judgement). j .walk .system)
+        (judged-accepted buffers w (wordsOf bytes) (sym (answered buffers w (wordsOf bytes) (readAnswer w b (wordsOf bytes)) refl) ∙ accepted))
+
+    -- the row of a V = 0 line is that of the samples read
+    row-as-read : vOf (systemOf (w .system)) (w .line) ≡ false → rowOfLine w bytes ≡ rowOf (readBuffers w b (wordsOf bytes))
+    unfolding rowOfLine dueIn dueOf
+    row-as-read v =
+        let a = answered-accepted w b (wordsOf bytes) accepted in
+        active-part-of-samples (dueIn w (wordsOf bytes)) (wordsOf bytes) (a .size)
+        ∙ ap rowOf (sym (picture-buffers w (a .good) b m (wordsOf bytes) accepted v))
+
+    row-kept : (rest : Played)
+        → rowThen (takesRow w) (rowOfLine w bytes) (extractedAs rest)
+        ≡ extractedAs (andThen (dueIn w (wordsOf bytes) .v) (readBuffers w b (wordsOf bytes)) rest)
+    unfolding takesRow dueIn dueOf
+    row-kept rest = row-before (vOf (systemOf (w .system)) (w .line)) (rowOfLine w bytes) (readBuffers w b (wordsOf bytes)) rest row-as-read
+
+-- ---- all lines
+pub extracts-as-plays : (lines : List (List ℕ)) (w : Walk) (b : Samples) → Measured b → Whole (w .system) lines
+    → extractAll w lines ≡ extractedAs (play w b (map wordsOf lines))
+unfolding extractAll play
+extracts-as-plays [] w b m whole = refl
+extracts-as-plays (bytes ∷ rest) w b m whole =
+    let size = whole bytes (List·Memᴰ·head refl) in
+    let words = wordsOf bytes in
+    let j = readAnswer w b words in
+    ap (λ (x : Judgement). cond (eqb (x .number) 0) (rowThen (takesRow w) (rowOfLine w bytes) (extractAll (x .walk) rest)) (refusedBy x))
+    (extracted-as-read w b m bytes size)
+    ∙ by-test (eqb (j .number) 0)
+    (λ t.
+    let z = eqb-true _ _ t in
+    let measured = buffers-measured w (answered-accepted w b words z .good) b m words z in
+    let same = same-system w b m bytes size z in
+    simp t
+    (ap (rowThen (takesRow w) (rowOfLine w bytes))
+    (extracts-as-plays rest (j .walk) (readBuffers w b words) measured
+    (λ line at. whole line (List·Memᴰ·tail at) ∙ ap (λ (n : ℕ). 2 * lineLength (systemOf n)) (sym same)))
+    ∙ row-kept w b m bytes size z (play (j .walk) (readBuffers w b words) (map wordsOf rest))))
+    (λ f. simp f)

@@ -1,0 +1,178 @@
+-- What is recorded of rows, line by line: each line is one that the writer leaves for the row's samples, with nothing inverted, and each row
+-- that was taken comes back from its samples. Assumes nothing.
+use Prim.Native.Nat.{ℕ, _+_, _*_, _<_, _≤_}
+use mathlib.Core.Path.{_≡_, refl, sym, ap, ap₂, subst, _∙_}
+use mathlib.Core.List.{List, [], _∷_, map}
+use mathlib.Core.List.{List·Memᴰ·not-nil, List·Memᴰ·cases-cons}
+use mathlib.Core.Bool.{true, cond, not}
+use mathlib.Core.Logic.{⊎-elim}
+use native.Mathlib.Omega.{arith}
+use lib.Dec.{eqb}
+use lib.ListN.{length, getD}
+use borrow.Author.Tests.{eq-eqb, eqb-true}
+use Rattle.refusal.specs.declared.Refusal.{Refusal}
+use Rattle.refusal.specs.Answer.{none, refuse}
+use Rattle.refusal.proofs.Cases.{by-test}
+use Rattle.refusal.proofs.Firsts.{orElse-none}
+use Rattle.timing.specs.declared.Report.{Report}
+use Rattle.timing.specs.Report.{cleanReport}
+use Rattle.system.specs.declared.Walk.{Walk}
+use Rattle.system.specs.Figures.{lineLength, vOf, systemOf}
+use Rattle.system.specs.Walk.{mostLines, walkRefusal, advancedOf}
+use Rattle.system.proofs.Laws.{Good, accepted-good}
+use Rattle.line.specs.declared.Due.{Due}
+use Rattle.line.specs.Due.{dueOf}
+use Rattle.line.specs.Samples.{Samples, lineOf}
+use Rattle.line.specs.Fit.{Fit}
+use Rattle.line.specs.Damage.{Damaged}
+use Rattle.line.proofs.Damaged.{line-length}
+use Rattle.line.proofs.Images.{undamaged}
+use Rattle.reader.specs.declared.Judgement.{Judgement}
+use Rattle.reader.specs.Judge.{acceptedAt, judgementOf}
+use Rattle.writer.specs.Write.{sampleRefusal, writeRefusal, lineAfter}
+use Rattle.writer.proofs.Places.{accepted-inside}
+use Rattle.writer.proofs.Laws.{passed}
+use Rattle.writer.proofs.Theorems.{written-samples-fit, accepted-writes-the-line}
+use Rattle.lent.specs.Bytes.{wordsOf, bytesOf}
+use Rattle.lent.proofs.Bytes.{bytes-length, words-back}
+use Rattle.v210.specs.Row.{rowLength, spareRefusal}
+use Rattle.programme.specs.Record.{takesRow, rowSamples, unpackedRefusal, lineRefusal, recordRefusal, recordedOf, lineBytesOf, lineBytesAfter}
+use Rattle.recording.specs.Recording.{Recording, end, next, pictures}
+use Rattle.recording.specs.Programme.{Recorded, rowOf, Whole}
+use Rattle.recording.specs.Programme.{end as no-line, next as one-line}
+use Rattle.recording.proofs.Rows.{row-measured, row-of-samples}
+
+-- a judgement has its refusal's number, and where that is 0 it is that of an accepted line
+module _ (r : Refusal) (w : Walk) (report : Report) where
+  judgement-accepted : r .number ≡ 0 → judgementOf r w report ≡ acceptedAt w report
+  unfolding judgementOf
+  judgement-accepted z = simp (eq-eqb _ _ z)
+
+  judgement-number : judgementOf r w report .number ≡ 0 → r .number ≡ 0
+  unfolding judgementOf
+  judgement-number z = by-test (eqb (r .number) 0) (λ t. eqb-true _ _ t) (λ f. simp f at z)
+
+-- What is told of lines that were recorded of rows, from a walk on.
+pub record Told (w : Walk) (rows lines : List (List ℕ)) : Type 0 where
+  pub samples : List Samples
+  pub recording : Recording (w .system) (w .line) samples (map wordsOf lines) 0
+  pub taken : pictures (w .system) (w .line) samples ≡ map rowSamples rows
+  pub few : w .lines + length samples ≤ mostLines
+  pub whole : Whole (w .system) lines
+  pub back : map rowOf (map rowSamples rows) ≡ rows
+
+-- ---- one line that is accepted
+module _ (w : Walk) (row buffer : List ℕ) (accepted : recordedOf w row (length buffer) .number ≡ 0) where
+  abbrev due : Due
+  due = dueOf (systemOf (w .system)) (w .line)
+
+  none-refused : recordRefusal w row (length buffer) .number ≡ 0
+  unfolding recordedOf
+  none-refused = judgement-number _ w cleanReport accepted
+
+  good : Good w
+  unfolding recordRefusal
+  good = accepted-good w (orElse-none (walkRefusal w) _ none-refused .0)
+
+  line-not-refused : lineRefusal w row .number ≡ 0
+  unfolding recordRefusal
+  line-not-refused =
+      let first = orElse-none (walkRefusal w) _ none-refused in
+      let second = orElse-none (refuse (not (eqb (length buffer) (2 * lineLength (systemOf (w .system))))) 3 0) _ (first .1) in
+      orElse-none (lineRefusal w row) none (second .1) .0
+
+  -- a row that is due is not refused, and neither are its samples
+  row-not-refused : takesRow w ≡ true → (unpackedRefusal row .number ≡ 0) × (sampleRefusal due (rowSamples row) .number ≡ 0)
+  unfolding lineRefusal
+  row-not-refused t = orElse-none (unpackedRefusal row) (sampleRefusal due (rowSamples row)) (rw t at line-not-refused)
+
+  walk-after : recordedOf w row (length buffer) .walk ≡ advancedOf w cleanReport
+  unfolding recordedOf
+  walk-after = ap (λ (j : Judgement). j .walk) (judgement-accepted _ w cleanReport none-refused)
+
+  -- the line that is left
+  line-left : lineBytesAfter w row buffer ≡ bytesOf (lineOf due (rowSamples row))
+  unfolding lineBytesAfter lineBytesOf
+  line-left = simp (eq-eqb _ _ none-refused)
+
+  words-left : wordsOf (lineBytesAfter w row buffer) ≡ lineOf due (rowSamples row)
+  words-left = ap wordsOf line-left ∙ words-back (lineOf due (rowSamples row))
+
+  words-length : length (lineOf due (rowSamples row)) ≡ lineLength (systemOf (w .system))
+  unfolding dueOf
+  words-length = line-length due (rowSamples row)
+
+  bytes-left : length (lineBytesAfter w row buffer) ≡ 2 * lineLength (systemOf (w .system))
+  bytes-left = ap length line-left ∙ bytes-length (lineOf due (rowSamples row)) ∙ ap (λ (n : ℕ). 2 * n) words-length
+
+  -- the writer takes the samples
+  fits : Fit due (rowSamples row)
+  unfolding dueOf takesRow
+  fits =
+      record {
+        lengths = row-measured row;
+        range = λ v. accepted-inside (rowSamples row) due (row-not-refused (ap not v) .1) v;
+      }
+
+  written : writeRefusal (w .system) (w .line) (rowSamples row) (length (lineOf due (rowSamples row))) .number ≡ 0
+  written =
+      written-samples-fit (w .system) (w .line) (rowSamples row) _ .1
+      (record { a-system = good .system; a-line = good .line; words = words-length; fit = fits })
+
+  -- and leaves that line
+  as-written : Damaged due (lineAfter (w .system) (w .line) (rowSamples row) (lineOf due (rowSamples row)))
+      (wordsOf (lineBytesAfter w row buffer)) 0 0
+  as-written =
+      let line = lineOf due (rowSamples row) in
+      let left = accepted-writes-the-line (w .system) (w .line) (rowSamples row) line written .0 in
+      subst (λ (l : List ℕ). Damaged due (lineAfter (w .system) (w .line) (rowSamples row) line) l 0 0) (sym words-left)
+      (subst (λ (l : List ℕ). Damaged due l line 0 0) (sym left) (undamaged due (rowSamples row)))
+
+  -- a row that was taken comes back from its samples
+  row-comes-back : ((i : ℕ) → i < length row → getD row i 0 < 256) → takesRow w ≡ true → rowOf (rowSamples row) ≡ row
+  unfolding unpackedRefusal
+  row-comes-back bytes t =
+      let both = orElse-none (refuse (not (eqb (length row) rowLength)) 3 1) (spareRefusal row) (row-not-refused t .0) in
+      row-of-samples row (eqb-true _ _ (passed (eqb (length row) rowLength) 3 1 (λ z. omega arith) (both .0))) bytes (both .1)
+
+  -- there was room for it
+  room : recordedOf w row (length buffer) .walk .lines ≤ mostLines
+  unfolding advancedOf
+  room = omega (arith, ap (λ (v : Walk). v .lines) walk-after, good .lines)
+
+  -- so it goes before the lines behind it
+  module _ (bytes : (i : ℕ) → i < length row → getD row i 0 < 256) (rows lines : List (List ℕ))
+      (rest : Told (advancedOf w cleanReport) rows lines) where
+    abbrev taken-rows : List (List ℕ)
+    taken-rows = cond (takesRow w) (row ∷ rows) rows
+
+    pictures-taken : pictures (w .system) (w .line) (rowSamples row ∷ rest .samples) ≡ map rowSamples taken-rows
+    unfolding takesRow advancedOf
+    pictures-taken =
+        by-test (vOf (systemOf (w .system)) (w .line))
+        (λ v. simp v (rest .taken)) (λ v. simp v (ap (λ (ps : List Samples). rowSamples row ∷ ps) (rest .taken)))
+
+    rows-come-back : map rowOf (map rowSamples taken-rows) ≡ taken-rows
+    rows-come-back =
+        by-test (takesRow w)
+        (λ t. simp t (ap₂ (λ (r : List ℕ) (rs : List (List ℕ)). r ∷ rs) (row-comes-back bytes t) (rest .back))) (λ f. simp f (rest .back))
+
+    line-more : Told w taken-rows (lineBytesAfter w row buffer ∷ lines)
+    unfolding advancedOf
+    line-more =
+        record {
+          samples = rowSamples row ∷ rest .samples;
+          recording = next (lineOf due (rowSamples row)) written as-written (omega arith) (omega arith) (rest .recording);
+          taken = pictures-taken;
+          few = omega (arith, rest .few);
+          whole = λ line at. ⊎-elim (λ e. ap length e ∙ bytes-left) (λ there. rest .whole line there) (List·Memᴰ·cases-cons at);
+          back = rows-come-back;
+        }
+
+-- ---- all lines
+pub recorded-told : {w : Walk} {rows lines : List (List ℕ)} → Recorded w rows lines → w .lines ≤ mostLines → Told w rows lines
+recorded-told no-line h =
+    record { samples = []; recording = end; taken = refl; few = omega arith; whole = λ line at. absurd (List·Memᴰ·not-nil at); back = refl }
+recorded-told {w} (one-line {rows = rows} {lines = lines} row buffer bytes accepted more) h =
+    line-more w row buffer accepted bytes rows lines
+    (subst (λ (v : Walk). Told v rows lines) (walk-after w row buffer accepted) (recorded-told more (room w row buffer accepted)))

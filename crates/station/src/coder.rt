@@ -1,0 +1,225 @@
+// `scramble` and `descramble`: words in, coded or decoded words out.
+ghost use mathlib.Core.Path.{_≡_};
+ghost use Prim.Native.Nat.{_/_, _≤_};
+ghost use lib.ListN.{length};
+use crate::status::Status;
+use crate::status::unread;
+use crate::status::unwritten;
+use libc::STDERR_FILENO;
+use libc::STDOUT_FILENO;
+use serial::Answer;
+use serial::State;
+use std::num::wrapping_add_u64;
+
+// What a serial call takes at most, in words.
+const PIECE: usize = 65536;
+
+// How many pieces pass between two reports of progress.
+const PIECES_A_REPORT: u64 = 64;
+
+// The state after so many words, and whether the input goes on, or how it ended.
+struct Stream {
+    state: State,
+    words: u64,
+    is_open: bool,
+    status: Status,
+}
+
+fn ended(state: State, words: u64, status: Status) -> Stream {
+    Stream {
+        state,
+        words,
+        is_open: false,
+        status,
+    }
+}
+
+fn refused(name: &[u8], number: u64, word: u64, reason: &[u8]) -> Status {
+    io::write_all(STDERR_FILENO, name);
+    console::say(STDERR_FILENO, b": refused ", number);
+    console::say(STDERR_FILENO, b", word ", word);
+    io::write_all(STDERR_FILENO, reason);
+    Status::Refused
+}
+
+fn least(a: usize, b: usize) -> usize
+    ensures { λ r. ⌜ (r ≤ a) × (r ≤ b) ⌝ }
+{
+    if a < b {
+        return a;
+    }
+    b
+}
+
+// Codes or decodes words.
+fn turn(is_coding: bool, state: State, words: &[u16], out: &mut [u16]) -> Answer {
+    if is_coding {
+        return serial::code(state, words, out);
+    }
+    serial::decode(state, words, out)
+}
+
+// The state after the words that were good: all of them, or those before the first that is refused.
+struct Turned {
+    state: State,
+    good: usize,
+}
+
+// Codes or decodes words up to the first that is refused.
+fn turn_good(is_coding: bool, state: State, words: &[u16], out: &mut [u16]) -> Turned
+    requires { ⌜ length (now out) ≡ length (now words) ⌝ }
+    ensures { λ r. ⌜ r .good ≤ length (now (words .entry)) ⌝ }
+{
+    let whole = turn(is_coding, state, words, out);
+    if whole.number == 0 {
+        let after = whole.state;
+        return Turned {
+            state: after,
+            good: words.len(),
+        };
+    }
+    let good = least(whole.place, words.len());
+    let part = turn(is_coding, state, &words[0..good], &mut out[0..good]);
+    let after = part.state;
+    Turned { state: after, good }
+}
+
+// The same of words as bytes, by way of room for them.
+fn turn_bytes(
+    is_coding: bool,
+    state: State,
+    bytes: &[u8],
+    words: &mut [u16],
+    out: &mut [u16],
+) -> Turned
+    requires { ⌜ length (now out) ≡ length (now words) ⌝ }
+    ensures { λ r. ⌜ r .good ≤ length (now (words .entry)) ⌝ }
+{
+    lent::to_words(bytes, words);
+    turn_good(is_coding, state, words, out)
+}
+
+// Writes words, by way of room for their bytes. True where all of them were written.
+fn write_words(words: &[u16], bytes: &mut [u8]) -> bool {
+    lent::to_bytes(words, bytes);
+    io::write_all(STDOUT_FILENO, bytes)
+}
+
+// What a stream comes to, with so many words more, where it stops short of a word, or of half a word.
+fn stopped(name: &[u8], state: State, words: u64, is_short: bool, is_odd: bool) -> Stream {
+    if is_short {
+        return ended(
+            state,
+            words,
+            refused(name, 5, words, b": it is over 1023\n"),
+        );
+    }
+    if is_odd {
+        return ended(
+            state,
+            words,
+            refused(name, 3, words, b": half a word is left\n"),
+        );
+    }
+    Stream {
+        state,
+        words,
+        is_open: true,
+        status: Status::Done,
+    }
+}
+
+// What a stream comes to where these bytes of it are read: its words are coded or decoded, and written.
+fn put_words(
+    name: &[u8],
+    is_coding: bool,
+    stream: Stream,
+    bytes: &mut [u8],
+    words: &mut [u16],
+    out: &mut [u16],
+) -> Stream
+    requires { ⌜ (length (now words) ≡ length (now bytes) / 2) × (length (now out) ≡ length (now words)) ⌝ }
+{
+    let count = words.len();
+    let is_odd = bytes.len() % 2 == 1;
+    let turned = turn_bytes(is_coding, stream.state, &bytes[0..2 * count], words, out);
+    let good = turned.good;
+    let state = turned.state;
+    let done = wrapping_add_u64(stream.words, good as u64);
+    if !write_words(&out[0..good], &mut bytes[0..2 * good]) {
+        return ended(state, done, unwritten(name));
+    }
+    stopped(name, state, done, good < count, is_odd)
+}
+
+// Takes one piece of the input.
+fn take_piece(
+    name: &[u8],
+    is_coding: bool,
+    stream: Stream,
+    bytes: &mut [u8],
+    words: &mut [u16],
+    out: &mut [u16],
+) -> Stream
+    requires { ⌜ (length (now words) ≡ length (now bytes) / 2) × (length (now out) ≡ length (now words)) ⌝ }
+{
+    let filled = console::fill(bytes);
+    if filled.is_failed {
+        return ended(stream.state, stream.words, unread(name));
+    }
+    let have = filled.have;
+    if have == 0 {
+        return ended(stream.state, stream.words, Status::Done);
+    }
+    let count = have / 2;
+    put_words(
+        name,
+        is_coding,
+        stream,
+        &mut bytes[0..have],
+        &mut words[0..count],
+        &mut out[0..count],
+    )
+}
+
+fn show(words: u64) {
+    console::say(STDERR_FILENO, b"\rwords ", words);
+}
+
+// Takes pieces to the end of the input or the first refusal. The turns count down from a number that no input uses up.
+fn take_pieces(
+    name: &[u8],
+    is_coding: bool,
+    bytes: &mut [u8],
+    words: &mut [u16],
+    out: &mut [u16],
+) -> Status
+    requires { ⌜ (length (now words) ≡ length (now bytes) / 2) × (length (now out) ≡ length (now words)) ⌝ }
+{
+    let is_shown = console::is_shown();
+    let mut stream = Stream {
+        state: State::fresh(),
+        words: 0,
+        is_open: true,
+        status: Status::Done,
+    };
+    let mut turns = u64::MAX;
+    while turns > 0 && stream.is_open {
+        stream = take_piece(name, is_coding, stream, bytes, words, out);
+        turns -= 1;
+        if is_shown && turns % PIECES_A_REPORT == 0 {
+            show(stream.words);
+        }
+    }
+    if is_shown {
+        console::end_show();
+    }
+    stream.status
+}
+
+pub(crate) fn code_input(name: &[u8], is_coding: bool) -> Status {
+    let mut bytes = [0u8; 2 * PIECE];
+    let mut words = [0u16; PIECE];
+    let mut out = [0u16; PIECE];
+    take_pieces(name, is_coding, &mut bytes, &mut words, &mut out)
+}

@@ -1,0 +1,5 @@
+pub mod Digits
+pub mod Places
+pub mod Refusals
+pub mod RoundTrip
+pub mod Theorems
