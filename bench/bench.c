@@ -1,5 +1,6 @@
 /* The speed of Fiskrogn beside memcpy and plain C, measured side by side in one run. Prints ratios, never times.
- * usage: bench [MIB]    how much material to stream, 40 MiB unless told; with 1 it is a test of correctness. */
+ * usage: bench [MIB]    how much material to stream, 40 MiB unless told; with 1 it is a test of correctness.
+ *        bench record SYSTEM START LINES clean|repaired    a recording to standard output, with one bit inverted in no code or in each. */
 #include "../include/fiskrogn.h"
 
 #include <stdio.h>
@@ -233,7 +234,25 @@ static void serial_table(void) {
     }
 }
 
+/* ---- a recording for the confirming program */
+static int write_recording(uint32_t system, uint32_t start, size_t lines, int repaired) {
+    static uint16_t line[1728];
+    now = &systems[system == 625];
+    uint16_t header[2] = {(uint16_t)system, (uint16_t)start};
+    fwrite(header, 2, 2, stdout);
+    for (size_t i = 0; i < 720; i++) y[i] = sample();
+    for (size_t i = 0; i < 360; i++) cb[i] = sample(), cr[i] = sample();
+    for (size_t k = 0; k < lines; k++) {
+        check(speed_write(system, number_of(start - 1 + k), y, 720, cb, 360, cr, 360, line, now->words) == 0, "a line is written");
+        if (repaired) line[3] ^= 4, line[now->sav + 3] ^= 256;
+        fwrite(line, 2, now->words, stdout);
+    }
+    return ferror(stdout) != 0;
+}
+
 int main(int argc, char **argv) {
+    if (argc == 6 && strcmp(argv[1], "record") == 0)
+        return write_recording((uint32_t)atoi(argv[2]), (uint32_t)atoi(argv[3]), strtoul(argv[4], NULL, 10), argv[5][0] == 'r');
     size_t mib = argc > 1 ? strtoul(argv[1], NULL, 10) : 40;
     store = malloc(mib * 1048576);
     target = malloc(mib * 1048576);

@@ -5,7 +5,7 @@ Run: python3 -m independent.selftest
 
 import sys
 
-from independent import judge
+from independent import judge, programme
 from independent.material import changed, fourth_offsets
 from independent.protocol import pack_slice
 from independent.runs import header
@@ -257,6 +257,7 @@ GROUPS = (
     serial_states,
     captures,
     confirmed_runs,
+    *programme.GROUPS,
 )
 
 

@@ -30,7 +30,7 @@ fn same(text: &[u8], other: &[u8]) -> bool {
     true
 }
 
-// The number that digits give, up to nine of them, or none.
+// The number that digits give, or none where it would have more than nine.
 fn number_of(digits: &[u8]) -> u32 {
     let mut number: u32 = 0;
     for i in 0..digits.len() {
@@ -49,9 +49,9 @@ fn number_of(digits: &[u8]) -> u32 {
     number
 }
 
-// The number that an argument gives, or none.
+// The number that an argument gives, or none: a longer argument than nine digits is not taken at all.
 fn argument(index: usize) -> u32 {
-    let mut text = [0u8; 10];
+    let mut text = [0u8; 9];
     let length = os::arg(index, &mut text);
     if length == 0 {
         return NO_NUMBER;
