@@ -9,10 +9,8 @@ use borrow.Author.Tests.{eqb-true, eqb-false}
 use Rattle.refusal.proofs.Cases.{by-cond}
 use Rattle.timing.specs.Code.{correctionOf}
 use Rattle.timing.specs.Report.{numberWhere}
-use Rattle.system.specs.declared.System.{System}
-use Rattle.system.specs.declared.System.the-variants.{Lines525, Lines625}
 use Rattle.system.specs.Figures.{savOffset}
-use Rattle.system.proofs.Laws.{line-is-parts, sav-low}
+use Rattle.system.proofs.Laws.{line-is-parts, sav-low, sav-even}
 use Rattle.line.specs.declared.Due.{Due}
 use Rattle.line.specs.Due.{flagsOf, codeAt}
 use Rattle.line.specs.Fault.{faultWhere}
@@ -30,11 +28,6 @@ four-well fvh word low high second third fourth (suc zero) l = zeros-well (word 
 four-well fvh word low high second third fourth (suc (suc zero)) l = zeros-well (word 2) third
 four-well fvh word low high second third fourth (suc (suc (suc zero))) l = fourth-fault fvh (word 3) ∙ fourth
 four-well fvh word low high second third fourth (suc (suc (suc (suc k)))) l = absurd (omega arith)
-
--- SAV stands at an even offset
-sav-even : (s : System) → savOffset s % 2 ≡ 0
-sav-even Lines525 = refl
-sav-even Lines625 = refl
 
 module _ (due : Due) (bytes : List ℕ) where
   abbrev word : ℕ → ℕ

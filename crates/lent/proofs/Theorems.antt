@@ -10,10 +10,10 @@ use lib.ListN.{length}
 use borrow.Author.Tests.{eq-eqb, ne-eqb, eqb-true, eqb-false}
 use Rattle.refusal.specs.declared.Refusal.{Refusal}
 use Rattle.refusal.specs.Answer.{none, refuse, orElse}
-use Rattle.refusal.specs.Table.{when, _before_, Keeps}
-use Rattle.refusal.proofs.Cases.{by-test, not-true}
+use Rattle.refusal.specs.Table.{_before_, Keeps}
+use Rattle.refusal.proofs.Cases.{by-test}
 use Rattle.refusal.proofs.Firsts.{orElse-accepted}
-use Rattle.refusal.proofs.Tables.{keeps-when, keeps-before, keeps-last, Decides, decides-when, decides-before}
+use Rattle.refusal.proofs.Tables.{keeps-unequal, keeps-before, keeps-last, Decides, decides-when, decides-before}
 use Rattle.system.specs.declared.Walk.{Walk}
 use Rattle.system.specs.Figures.{lineLength, systemOf}
 use Rattle.system.specs.Walk.{walkRefusal}
@@ -57,8 +57,7 @@ module _ (w : Walk) (bytes : List ℕ) where
       let size : ℕ = 2 * lineLength (systemOf (w .system)) in
       keeps-before _ _ (walkRefusal w) _ (walk-exact w)
       (keeps-before _ _ (refuse (not (eqb (length bytes) size)) 3 0) _
-      (keeps-when (not (eqb (length bytes) size)) (length bytes ≡ size → ⊥) 3 0
-      (λ t. eqb-false (length bytes) size (not-true _ t)) (λ ne. ap not (ne-eqb (length bytes) size ne)) (λ z. omega arith))
+      (keeps-unequal (length bytes) size 0)
       (keeps-last _ (wordRefusal (dueIn w (wordsOf bytes)) (wordsOf bytes)) (words-exact (dueIn w (wordsOf bytes)) (wordsOf bytes))))
 
   -- The answer's number and place are that refusal's.
@@ -91,9 +90,7 @@ module _ (w : Walk) (bytes : List ℕ) where
 -- ---- Words as bytes: 3 exactly where the bytes are not twice the words, which leaves one answer.
 module _ (bytes words : ℕ) where
   pub pairs-exact : Keeps (pairsRefusals bytes words) (pairsRefusal bytes words)
-  pairs-exact =
-      keeps-when (not (eqb bytes (2 * words))) (bytes ≡ 2 * words → ⊥) 3 0
-      (λ t. eqb-false bytes (2 * words) (not-true _ t)) (λ ne. ap not (ne-eqb bytes (2 * words) ne)) (λ z. omega arith)
+  pairs-exact = keeps-unequal bytes (2 * words) 0
 
   pub pairs-decide : Decides (pairsRefusals bytes words)
   pairs-decide = decides-when (bytes ≡ 2 * words → ⊥) 3 0

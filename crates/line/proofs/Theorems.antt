@@ -1,26 +1,21 @@
 -- The words of a line are refused exactly as the document's table says. Assumes nothing.
 use Prim.Native.Nat.{ℕ, _<_, _≤_}
-use mathlib.Core.Path.{_≡_, refl, sym, ap, _∙_}
+use mathlib.Core.Path.{_≡_, refl}
 use mathlib.Core.Bool.{Bool, true, false, cond, not, _||_}
 use mathlib.Core.List.{List}
 use mathlib.Core.Logic.{_⊎_, inl, inr, ⊎-elim}
 use native.Mathlib.Omega.{arith}
 use lib.Dec.{ltb, eqb}
 use lib.ListN.{length, getD}
-use borrow.Author.Tests.{lt-ltb, ltb-true, ltb-false, le-ltb, eq-eqb, ne-eqb, eqb-true, eqb-false}
-use Rattle.refusal.specs.Table.{Row, when, _before_, Lowest, Keeps}
-use Rattle.refusal.specs.Answer.{none, refuse, orElse}
-use Rattle.refusal.proofs.Cases.{by-test, not-true, or-either, or-left, or-right}
-use Rattle.refusal.proofs.Tables.{Numbers, numbers-when, numbers-before, keeps-when, keeps-before, keeps-last, keeps-lowest, Decides, decides-when, decides-before, decides-lowest}
-use Rattle.timing.specs.Code.{correctionOf}
-use Rattle.timing.specs.Report.{numberWhere}
-use Rattle.timing.specs.Refusals.{fourthRefusals}
+use borrow.Author.Tests.{lt-ltb, ltb-true, ltb-false, eqb-true, eqb-false}
+use Rattle.refusal.specs.Table.{when, _before_, Keeps}
+use Rattle.refusal.specs.Answer.{refuse}
+use Rattle.refusal.proofs.Cases.{by-test, or-either, or-left, or-right}
+use Rattle.refusal.proofs.Tables.{Numbers, numbers-when, numbers-before, keeps-unequal, keeps-before, keeps-last, keeps-lowest, Decides, decides-when, decides-before, decides-lowest}
 use Rattle.timing.proofs.Theorems.{fourth-numbers, fourth-decides}
 use Rattle.system.specs.declared.System.{System}
 use Rattle.system.specs.Figures.{lineLength}
 use Rattle.line.specs.declared.Due.{Due}
-use Rattle.line.specs.declared.What.{What}
-use Rattle.line.specs.declared.What.the-variants.{Ones, Zeros, Fourth, Fill, Sample}
 use Rattle.line.specs.Due.{flagsOf, dueAt}
 use Rattle.line.specs.Fault.{leastSample, mostSample, wrongWhere, faultWhere, faultAt, wordRefusal}
 use Rattle.line.specs.Lengths.{lengthRefusal, lengthRefusals, bufferRefusal, bufferRefusals}
@@ -29,15 +24,6 @@ use Rattle.line.specs.Samples.{yLength, cLength}
 use Rattle.line.proofs.Dues.{by-due, flags-low}
 
 -- ---- lengths
-unlike : (m n : ℕ) → not (eqb m n) ≡ true → m ≡ n → ⊥
-unlike m n e = eqb-false m n (not-true (eqb m n) e)
-
-like-not : (m n : ℕ) → (m ≡ n → ⊥) → not (eqb m n) ≡ true
-like-not m n ne = ap not (ne-eqb m n ne)
-
-keeps-unequal : (m n place : ℕ) → Keeps (when (m ≡ n → ⊥) 3 place) (refuse (not (eqb m n)) 3 place)
-keeps-unequal m n place = keeps-when (not (eqb m n)) (m ≡ n → ⊥) 3 place (unlike m n) (like-not m n) (λ z. omega arith)
-
 pub length-exact : (s : System) (words : ℕ) → Keeps (lengthRefusals s words) (lengthRefusal s words)
 length-exact s words = keeps-unequal words (lineLength s) 0
 

@@ -1,17 +1,16 @@
 -- The promises on extracting a line, of the definitions that the call's contract cites. Assumes nothing.
 use Prim.Native.Nat.{ℕ, _*_}
-use mathlib.Core.Path.{_≡_, refl, sym, ap, _∙_}
+use mathlib.Core.Path.{_≡_, refl, sym, _∙_}
 use mathlib.Core.Bool.{true, false, not}
 use mathlib.Core.List.{List}
 use mathlib.Core.Logic.{⊎-elim}
-use native.Mathlib.Omega.{arith}
 use lib.Dec.{eqb}
 use lib.ListN.{length}
-use borrow.Author.Tests.{eq-eqb, ne-eqb, eqb-true, eqb-false}
+use borrow.Author.Tests.{eq-eqb, eqb-true}
 use Rattle.refusal.specs.Answer.{refuse}
-use Rattle.refusal.specs.Table.{when, Keeps}
-use Rattle.refusal.proofs.Cases.{by-test, not-true}
-use Rattle.refusal.proofs.Tables.{keeps-when, keeps-before, keeps-last, Decides, decides-when, decides-before}
+use Rattle.refusal.specs.Table.{Keeps}
+use Rattle.refusal.proofs.Cases.{by-test}
+use Rattle.refusal.proofs.Tables.{keeps-unequal, keeps-before, keeps-last, Decides, decides-when, decides-before}
 use Rattle.system.specs.declared.Walk.{Walk}
 use Rattle.system.specs.Figures.{lineLength, systemOf}
 use Rattle.system.specs.Walk.{walkRefusal}
@@ -26,11 +25,6 @@ use Rattle.programme.specs.Record.{takesRow}
 use Rattle.programme.specs.Extract.{extractRefusal, extractedOf, rowOfLine, rowAfterLine}
 use Rattle.programme.specs.Refusals.{extractRefusals}
 use Rattle.programme.proofs.Extracts.{extracted-refused, extracted-judged, row-refused, row-blank, row-given}
-
--- a length that is not the due one is 3 at its place
-keeps-unequal : (m n place : ℕ) → Keeps (when (m ≡ n → ⊥) 3 place) (refuse (not (eqb m n)) 3 place)
-keeps-unequal m n place =
-    keeps-when (not (eqb m n)) (m ≡ n → ⊥) 3 place (λ t. eqb-false m n (not-true _ t)) (λ ne. ap not (ne-eqb m n ne)) (λ z. omega arith)
 
 -- ---- Each refusal comes exactly when its condition holds and none earlier does ..
 pub extract-exact : (w : Walk) (bytes : List ℕ) (room : ℕ) → Keeps (extractRefusals w bytes room) (extractRefusal w bytes room)

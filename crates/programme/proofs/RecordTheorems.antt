@@ -6,12 +6,12 @@ use mathlib.Core.List.{List}
 use native.Mathlib.Omega.{arith}
 use lib.Dec.{eqb}
 use lib.ListN.{length}
-use borrow.Author.Tests.{ne-eqb, eqb-true, eqb-false}
+use borrow.Author.Tests.{eqb-true}
 use Rattle.refusal.specs.Answer.{none, refuse}
 use Rattle.refusal.specs.Table.{Keeps}
-use Rattle.refusal.proofs.Cases.{by-test, not-true}
+use Rattle.refusal.proofs.Cases.{by-test}
 use Rattle.refusal.proofs.Firsts.{orElse-none}
-use Rattle.refusal.proofs.Tables.{keeps-when, keeps-before, keeps-last, Decides, decides-when, decides-before, decides-lowest}
+use Rattle.refusal.proofs.Tables.{keeps-unequal, keeps-before, keeps-last, Decides, decides-when, decides-before, decides-lowest}
 use Rattle.timing.specs.Report.{cleanReport}
 use Rattle.system.specs.declared.Walk.{Walk}
 use Rattle.system.specs.Figures.{lineLength, systemOf}
@@ -42,8 +42,7 @@ module _ (w : Walk) (row : List ℕ) (room : ℕ) where
       let size : ℕ = 2 * lineLength (systemOf (w .system)) in
       keeps-before _ _ (walkRefusal w) _ (walk-exact w)
       (keeps-before _ _ (refuse (not (eqb room size)) 3 0) _
-      (keeps-when (not (eqb room size)) (room ≡ size → ⊥) 3 0
-      (λ t. eqb-false room size (not-true _ t)) (λ ne. ap not (ne-eqb room size ne)) (λ z. omega arith))
+      (keeps-unequal room size 0)
       (keeps-last _ (lineRefusal w row) (line-exact w row)))
 
   -- The table asks for one refusal at the most.

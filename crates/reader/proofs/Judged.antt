@@ -12,6 +12,7 @@ use Rattle.refusal.specs.Answer.{none, refuse, orElse}
 use Rattle.refusal.proofs.Cases.{by-test}
 use Rattle.refusal.proofs.Firsts.{orElse-refused, orElse-none}
 use Rattle.system.specs.declared.Walk.{Walk}
+use Rattle.timing.specs.declared.Report.{Report}
 use Rattle.system.specs.Figures.{lineLength, activeOffset, systemOf}
 use Rattle.system.specs.Walk.{walkRefusal}
 use Rattle.system.proofs.Laws.{line-is-parts}
@@ -107,6 +108,19 @@ module _ (buffers : Refusal) (w : Walk) (words : List ℕ) where
       ∙ by-test (eqb (readRefusal buffers w words .number) 0)
       (λ t. let z = eqb-true _ _ t in ap (λ (i : Judgement). i .number) (judged-accepted z) ∙ sym z)
       (λ f. ap (λ (i : Judgement). i .number) (judged-refused _ refl (eqb-false _ _ f)))
+
+-- ---- a judgement by its refusal: it has the refusal's number, and where that is 0 it is that of an accepted line
+module _ (r : Refusal) (w : Walk) (report : Report) where
+  pub judgement-accepted : r .number ≡ 0 → judgementOf r w report ≡ acceptedAt w report
+  unfolding judgementOf
+  judgement-accepted z = simp (eq-eqb _ _ z)
+
+  pub judgement-number : judgementOf r w report .number ≡ 0 → r .number ≡ 0
+  unfolding judgementOf
+  judgement-number z = by-test (eqb (r .number) 0) (λ t. eqb-true _ _ t) (λ f. simp f at z)
+
+  pub judgement-well : judgementOf r w report .number ≡ 0 → judgementOf r w report ≡ acceptedAt w report
+  judgement-well z = judgement-accepted (judgement-number z)
 
 -- ---- a sample buffer afterwards
 module _ (j : Judgement) (d : Due) (samples before : List ℕ) where

@@ -8,20 +8,14 @@ use lib.Dec.{eqb}
 use lib.ListN.{getD}
 use borrow.Author.Tests.{eqb-true, eqb-false}
 use Rattle.refusal.proofs.Cases.{by-test}
-use Rattle.system.specs.declared.System.{System}
-use Rattle.system.specs.declared.System.the-variants.{Lines525, Lines625}
 use Rattle.system.specs.Figures.{lineLength, savOffset}
-use Rattle.system.proofs.Laws.{line-is-parts, sav-low}
+use Rattle.system.proofs.Laws.{line-is-parts, sav-low, sav-even}
 use Rattle.line.specs.declared.Due.{Due}
 use Rattle.line.specs.Due.{flagsOf, codeAt}
 use Rattle.line.specs.Fault.{leastSample, mostSample, faultWhere, faultAt}
 use Rattle.line.proofs.Dues.{due-eav, due-sav}
 use Rattle.line.proofs.Faults.{fillWord, parts-well}
 use Rattle.reader.specs.Passes.{CodeWell, Filled, Sampled, ActiveWell}
-
-sav-even : (s : System) → savOffset s % 2 ≡ 0
-sav-even Lines525 = refl
-sav-even Lines625 = refl
 
 -- ---- what a loop found of places from where a part starts, said of offsets
 code-at-offset : (fvh : ℕ) (words : List ℕ) (from : ℕ) → CodeWell fvh words from

@@ -5,13 +5,12 @@ use mathlib.Core.Bool.{Bool, true, false, cond, not}
 use mathlib.Core.List.{List}
 use native.Mathlib.Omega.{arith}
 use lib.Dec.{eqb}
-use borrow.Author.Tests.{eq-eqb, ne-eqb, eqb-true, eqb-false}
+use borrow.Author.Tests.{eq-eqb, ne-eqb, eqb-true}
 use Rattle.refusal.specs.declared.Refusal.{Refusal}
 use Rattle.refusal.specs.Answer.{none, refuse, orElse}
 use Rattle.refusal.specs.Table.{Keeps}
-use Rattle.refusal.proofs.Cases.{not-true}
-use Rattle.refusal.proofs.Firsts.{orElse-accepted, orElse-refused, orElse-none}
-use Rattle.refusal.proofs.Tables.{keeps-when, keeps-before, Decides, decides-when, decides-before}
+use Rattle.refusal.proofs.Firsts.{orElse-accepted, orElse-none}
+use Rattle.refusal.proofs.Tables.{keeps-unequal, keeps-before, Decides, decides-when, decides-before}
 use Rattle.line.specs.Lengths.{bufferRefusal}
 use Rattle.line.specs.Samples.{activeLength}
 use Rattle.line.proofs.Theorems.{buffer-exact, buffer-decides}
@@ -47,8 +46,7 @@ module _ (part y cb cr : ℕ) where
   unfolding splitRefusal
   split-exact =
       keeps-before _ _ (refuse (not (eqb part activeLength)) 3 0) _
-      (keeps-when (not (eqb part activeLength)) (part ≡ activeLength → ⊥) 3 0 (λ t. eqb-false part activeLength (not-true _ t))
-      (λ ne. ap not (ne-eqb part activeLength ne)) (λ z. omega arith))
+      (keeps-unequal part activeLength 0)
       (buffer-exact y cb cr)
 
   pub split-decides : Decides (splitRefusals part y cb cr)

@@ -5,16 +5,13 @@ use mathlib.Core.Bool.{Bool, true, false, cond, not, _&&_, _||_}
 use lib.Dec.{ltb}
 use borrow.Author.Count.{below-more}
 use borrow.Author.Tests.{ltb-false}
+use Rattle.refusal.proofs.Cases.{and-true}
 use Rattle.line.specs.Fault.{leastSample, mostSample}
 
 -- what the contrary of a test picks
 pub cond-not : (t : Bool) (a b : ℕ) → cond (not t) a b ≡ cond t b a
 cond-not true a b = refl
 cond-not false a b = refl
-
-pub and-true : (a b : Bool) → (a && b) ≡ true → (a ≡ true) × (b ≡ true)
-and-true true b e = (refl, e)
-and-true false b e = (e, cc)
 
 -- A pass that is well so far, and one test more: what the tests so far tell of each place below k, and this one of k.
 pub still-well : (P : ℕ → Type 0) (well test : Bool) (k : ℕ) → (well ≡ true → (j : ℕ) → j < k → P j) → (test ≡ true → P k)

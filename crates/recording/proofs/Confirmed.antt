@@ -11,8 +11,7 @@ use lib.ListN.{length, take, drop, length-append, length-drop, length-map, take-
 use lib.Seq.{take-at, drop-at}
 use borrow.Author.Tests.{eqb-true, eqb-false}
 use Rattle.refusal.specs.declared.Refusal.{Refusal}
-use Rattle.refusal.proofs.Cases.{by-cond, by-test}
-use Rattle.timing.specs.declared.Report.{Report}
+use Rattle.refusal.proofs.Cases.{by-test}
 use Rattle.system.specs.declared.Walk.{Walk}
 use Rattle.system.specs.Figures.{lineLength, systemOf}
 use Rattle.system.specs.Walk.{mostLines, walkRefusal, freshWalk, freshOf, advancedOf}
@@ -20,8 +19,9 @@ use Rattle.system.proofs.Laws.{Good, accepted-good, fresh-accepted}
 use Rattle.line.specs.Samples.{Samples}
 use Rattle.line.specs.Fit.{Measured}
 use Rattle.reader.specs.declared.Judgement.{Judgement}
-use Rattle.reader.specs.Judge.{acceptedAt, refusedAt, judgementOf, judgedOf}
+use Rattle.reader.specs.Judge.{judgedOf}
 use Rattle.lent.specs.Bytes.{wordsOf, judgedBytes}
+use Rattle.reader.proofs.Judged.{judgement-well}
 use Rattle.lent.proofs.Judged.{judged-walk, judged-count}
 use Rattle.lent.proofs.Theorems.{bytes-as-words}
 use Rattle.confirmation.specs.declared.Run.{Run}
@@ -37,14 +37,6 @@ use Rattle.recording.proofs.Theorems.{fresh, blank, blank-measured, rec
 -- every line has so many bytes
 abbrev Each : ℕ → List (List ℕ) → Type 0
 Each n lines = (line : List ℕ) → List·Memᴰ line lines → length line ≡ n
-
--- a judgement with the number 0 is that of an accepted line
-accepted-judgement : (r : Refusal) (w : Walk) (report : Report) → judgementOf r w report .number ≡ 0
-    → judgementOf r w report ≡ acceptedAt w report
-unfolding judgementOf
-accepted-judgement r w report =
-    by-cond (λ (j : Judgement). j .number ≡ 0 → j ≡ acceptedAt w report) (eqb (r .number) 0) (acceptedAt w report) (refusedAt w r)
-    (λ t z. refl) (λ f z. absurd (eqb-false _ _ f z))
 
 -- ---- a run over lines goes as playing their words does
 module _ (system start : ℕ) where
@@ -74,7 +66,7 @@ module _ (system start : ℕ) where
         → runAfter (stoppedBy (readAnswer w b (wordsOf line))) ≡ goingOn (readAnswer w b (wordsOf line) .walk)
     unfolding judgedOf
     goes-on z =
-        let e = accepted-judgement _ w _ z in
+        let e = judgement-well _ w _ z in
         ap (λ (j : Judgement). runAfter (stoppedBy j)) e ∙ sym (ap (λ (j : Judgement). goingOn (j .walk)) e)
 
     same-bytes : lineBytes (readAnswer w b (wordsOf line) .walk) ≡ lineBytes w
@@ -139,7 +131,7 @@ accepted-counted w line z =
       size =
           by-test (eqb (length line) (lineBytes w)) (λ t. eqb-true _ _ t)
           (λ f. absurd (never (judged-count w line (eqb-true _ _ a) (eqb-false _ _ f)) (λ e. omega arith)));
-      one-more = ap (λ (j : Judgement). j .walk .lines) (accepted-judgement _ w _ z);
+      one-more = ap (λ (j : Judgement). j .walk .lines) (judgement-well _ w _ z);
     })
     (λ a. absurd (never (judged-walk w line (eqb-false _ _ a)) (eqb-false _ _ a)))
   where

@@ -7,18 +7,12 @@ use mathlib.Core.List.{List·Memᴰ·not-nil, List·Memᴰ·cases-cons}
 use mathlib.Core.Bool.{true, cond, not}
 use mathlib.Core.Logic.{⊎-elim}
 use native.Mathlib.Omega.{arith}
-use lib.Dec.{eqb}
 use lib.ListN.{length, getD}
-use borrow.Author.Tests.{eq-eqb, eqb-true}
-use Rattle.refusal.specs.declared.Refusal.{Refusal}
-use Rattle.refusal.specs.Answer.{none, refuse}
 use Rattle.refusal.proofs.Cases.{by-test}
-use Rattle.refusal.proofs.Firsts.{orElse-none}
-use Rattle.timing.specs.declared.Report.{Report}
 use Rattle.timing.specs.Report.{cleanReport}
 use Rattle.system.specs.declared.Walk.{Walk}
 use Rattle.system.specs.Figures.{lineLength, vOf, systemOf}
-use Rattle.system.specs.Walk.{mostLines, walkRefusal, advancedOf}
+use Rattle.system.specs.Walk.{mostLines, advancedOf}
 use Rattle.system.proofs.Laws.{Good, accepted-good}
 use Rattle.line.specs.declared.Due.{Due}
 use Rattle.line.specs.Due.{dueOf}
@@ -27,30 +21,19 @@ use Rattle.line.specs.Fit.{Fit}
 use Rattle.line.specs.Damage.{Damaged}
 use Rattle.line.proofs.Damaged.{line-length}
 use Rattle.line.proofs.Images.{undamaged}
-use Rattle.reader.specs.declared.Judgement.{Judgement}
-use Rattle.reader.specs.Judge.{acceptedAt, judgementOf}
-use Rattle.writer.specs.Write.{sampleRefusal, writeRefusal, lineAfter}
+use Rattle.reader.proofs.Judged.{judgement-number}
+use Rattle.writer.specs.Write.{writeRefusal, lineAfter}
 use Rattle.writer.proofs.Places.{accepted-inside}
-use Rattle.writer.proofs.Laws.{passed}
 use Rattle.writer.proofs.Theorems.{written-samples-fit, accepted-writes-the-line}
 use Rattle.lent.specs.Bytes.{wordsOf, bytesOf}
 use Rattle.lent.proofs.Bytes.{bytes-length, words-back}
-use Rattle.v210.specs.Row.{rowLength, spareRefusal}
-use Rattle.programme.specs.Record.{takesRow, rowSamples, unpackedRefusal, lineRefusal, recordRefusal, recordedOf, lineBytesOf, lineBytesAfter}
+use Rattle.programme.specs.Record.{takesRow, rowSamples, recordRefusal, recordedOf, lineBytesOf, lineBytesAfter}
+use Rattle.programme.proofs.Records.{row-measured}
+use Rattle.programme.proofs.RecordTheorems.{Recordable, record-accepted, recorded-walk}
 use Rattle.recording.specs.Recording.{Recording, end, next, pictures}
 use Rattle.recording.specs.Programme.{Recorded, rowOf, Whole}
 use Rattle.recording.specs.Programme.{end as no-line, next as one-line}
-use Rattle.recording.proofs.Rows.{row-measured, row-of-samples}
-
--- a judgement has its refusal's number, and where that is 0 it is that of an accepted line
-module _ (r : Refusal) (w : Walk) (report : Report) where
-  judgement-accepted : r .number ≡ 0 → judgementOf r w report ≡ acceptedAt w report
-  unfolding judgementOf
-  judgement-accepted z = simp (eq-eqb _ _ z)
-
-  judgement-number : judgementOf r w report .number ≡ 0 → r .number ≡ 0
-  unfolding judgementOf
-  judgement-number z = by-test (eqb (r .number) 0) (λ t. eqb-true _ _ t) (λ f. simp f at z)
+use Rattle.recording.proofs.Rows.{row-of-samples}
 
 -- What is told of lines that were recorded of rows, from a walk on.
 pub record Told (w : Walk) (rows lines : List (List ℕ)) : Type 0 where
@@ -70,30 +53,19 @@ module _ (w : Walk) (row buffer : List ℕ) (accepted : recordedOf w row (length
   unfolding recordedOf
   none-refused = judgement-number _ w cleanReport accepted
 
+  fit-to-record : Recordable w row (length buffer)
+  fit-to-record = record-accepted w row (length buffer) none-refused
+
   good : Good w
-  unfolding recordRefusal
-  good = accepted-good w (orElse-none (walkRefusal w) _ none-refused .0)
-
-  line-not-refused : lineRefusal w row .number ≡ 0
-  unfolding recordRefusal
-  line-not-refused =
-      let first = orElse-none (walkRefusal w) _ none-refused in
-      let second = orElse-none (refuse (not (eqb (length buffer) (2 * lineLength (systemOf (w .system))))) 3 0) _ (first .1) in
-      orElse-none (lineRefusal w row) none (second .1) .0
-
-  -- a row that is due is not refused, and neither are its samples
-  row-not-refused : takesRow w ≡ true → (unpackedRefusal row .number ≡ 0) × (sampleRefusal due (rowSamples row) .number ≡ 0)
-  unfolding lineRefusal
-  row-not-refused t = orElse-none (unpackedRefusal row) (sampleRefusal due (rowSamples row)) (rw t at line-not-refused)
+  good = accepted-good w (fit-to-record .walk)
 
   walk-after : recordedOf w row (length buffer) .walk ≡ advancedOf w cleanReport
-  unfolding recordedOf
-  walk-after = ap (λ (j : Judgement). j .walk) (judgement-accepted _ w cleanReport none-refused)
+  walk-after = recorded-walk w row buffer none-refused .0
 
   -- the line that is left
   line-left : lineBytesAfter w row buffer ≡ bytesOf (lineOf due (rowSamples row))
-  unfolding lineBytesAfter lineBytesOf
-  line-left = simp (eq-eqb _ _ none-refused)
+  unfolding lineBytesOf
+  line-left = recorded-walk w row buffer none-refused .1
 
   words-left : wordsOf (lineBytesAfter w row buffer) ≡ lineOf due (rowSamples row)
   words-left = ap wordsOf line-left ∙ words-back (lineOf due (rowSamples row))
@@ -111,7 +83,7 @@ module _ (w : Walk) (row buffer : List ℕ) (accepted : recordedOf w row (length
   fits =
       record {
         lengths = row-measured row;
-        range = λ v. accepted-inside (rowSamples row) due (row-not-refused (ap not v) .1) v;
+        range = λ v. accepted-inside (rowSamples row) due (fit-to-record .samples (ap not v)) v;
       }
 
   written : writeRefusal (w .system) (w .line) (rowSamples row) (length (lineOf due (rowSamples row))) .number ≡ 0
@@ -130,10 +102,7 @@ module _ (w : Walk) (row buffer : List ℕ) (accepted : recordedOf w row (length
 
   -- a row that was taken comes back from its samples
   row-comes-back : ((i : ℕ) → i < length row → getD row i 0 < 256) → takesRow w ≡ true → rowOf (rowSamples row) ≡ row
-  unfolding unpackedRefusal
-  row-comes-back bytes t =
-      let both = orElse-none (refuse (not (eqb (length row) rowLength)) 3 1) (spareRefusal row) (row-not-refused t .0) in
-      row-of-samples row (eqb-true _ _ (passed (eqb (length row) rowLength) 3 1 (λ z. omega arith) (both .0))) bytes (both .1)
+  row-comes-back bytes t = row-of-samples row (fit-to-record .long t) bytes (fit-to-record .spare t)
 
   -- there was room for it
   room : recordedOf w row (length buffer) .walk .lines ≤ mostLines

@@ -12,8 +12,7 @@ use Rattle.system.specs.Figures.{lineLength, activeOffset}
 use Rattle.system.proofs.Laws.{line-is-parts}
 use Rattle.line.specs.declared.Due.{Due}
 use Rattle.line.specs.Samples.{activeLength, yLength, cLength, sampleAt, samplesOf}
-use Rattle.line.specs.Fit.{Measured}
-use Rattle.line.proofs.Tabs.{length-tab, getD-tab, is-tab}
+use Rattle.line.proofs.Tabs.{getD-tab, is-tab}
 use Rattle.line.proofs.Places.{taken-in-place}
 use Rattle.writer.proofs.Places.{cb-at, cr-at, y-at}
 use Rattle.v210.specs.Row.{rowLength, unpackedOf, packedOf, spareRefusal}
@@ -47,10 +46,6 @@ part-in-place part j l =
     third odd zero = omega arith
 
 module _ (row : List ℕ) where
-  -- the samples of a row have the right counts
-  pub row-measured : Measured (rowSamples row)
-  row-measured = record { y = length-tab _ yLength; cb = length-tab _ cLength; cr = length-tab _ cLength }
-
   -- a row of bytes with no spare bit set is the row of its samples
   pub row-of-samples : length row ≡ rowLength → ((i : ℕ) → i < length row → getD row i 0 < 256) → spareRefusal row .number ≡ 0
       → rowOf (rowSamples row) ≡ row

@@ -1,6 +1,6 @@
 -- Cases on a test. Assumes nothing.
 use mathlib.Core.Path.{_≡_, refl, sym, ap}
-use mathlib.Core.Bool.{Bool, true, false, cond, not, _||_}
+use mathlib.Core.Bool.{Bool, true, false, cond, not, _&&_, _||_}
 use mathlib.Core.Logic.{_⊎_, inl, inr}
 
 -- what holds of both answers, each where the test gives it, holds of the answer picked
@@ -21,6 +21,10 @@ not-true false e = refl
 pub not-false : (t : Bool) → not t ≡ false → t ≡ true
 not-false true e = refl
 not-false false e = sym e
+
+pub and-true : (a b : Bool) → (a && b) ≡ true → (a ≡ true) × (b ≡ true)
+and-true true b e = (refl, e)
+and-true false b e = (e, cc)
 
 pub or-either : (a b : Bool) → (a || b) ≡ true → (a ≡ true) ⊎ (b ≡ true)
 or-either true b e = inl refl

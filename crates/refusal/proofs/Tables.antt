@@ -2,20 +2,25 @@
 use mathlib.Core.Path.{_≡_, refl, sym, ap, subst, _∙_}
 use Prim.Native.Nat.{ℕ, _<_, _≤_}
 use native.Mathlib.Omega.{arith}
-use mathlib.Core.Bool.{Bool, true, false, cond, true≢false}
+use mathlib.Core.Bool.{Bool, true, false, cond, not, true≢false}
 use mathlib.Core.Logic.{_⊎_, inl, inr, ⊎-elim}
 use Rattle.refusal.specs.declared.Refusal.{Refusal}
 use Rattle.refusal.specs.Answer.{none, refuse, orElse, firstFrom}
 use Rattle.refusal.specs.Table.{Row, when, Silent, _before_, Lowest, Keeps}
 use lib.Dec.{eqb, ltb}
-use borrow.Author.Tests.{eqb-true, eqb-false, ltb-true, ltb-false}
-use Rattle.refusal.proofs.Cases.{by-test}
+use borrow.Author.Tests.{eqb-true, eqb-false, ne-eqb, ltb-true, ltb-false}
+use Rattle.refusal.proofs.Cases.{by-test, not-true}
 use Rattle.refusal.proofs.Firsts.{orElse-accepted, orElse-refused, Found, nowhere, at, found, first-none, first-at}
 
 -- a row whose condition is what its test says
 pub keeps-when : (t : Bool) (C : Type 0) (n p : ℕ) → (t ≡ true → C) → (C → t ≡ true) → (n ≡ 0 → ⊥) → Keeps (when C n p) (refuse t n p)
 keeps-when true C n p forth back positive = inl ((forth refl, refl), positive)
 keeps-when false C n p forth back positive = inr (λ r q. true≢false (sym (back (q .0))), refl)
+
+-- a length that is not the one that is due: 3 at its place
+pub keeps-unequal : (m n p : ℕ) → Keeps (when (m ≡ n → ⊥) 3 p) (refuse (not (eqb m n)) 3 p)
+keeps-unequal m n p =
+    keeps-when (not (eqb m n)) (m ≡ n → ⊥) 3 p (λ t. eqb-false m n (not-true _ t)) (λ ne. ap not (ne-eqb m n ne)) (λ z. omega arith)
 
 -- one table before another
 pub keeps-before : (a b : Row) (x y : Refusal) → Keeps a x → Keeps b y → Keeps (a before b) (orElse x y)

@@ -5,7 +5,7 @@ use mathlib.Core.List.{List, [], _∷_, _++_}
 use Prim.Native.Nat.{ℕ, zero, suc, _*_, _/_, _%_, _^_, _<_}
 use native.Mathlib.Omega.{arith}
 use lib.Bits.{bitXor, bitAnd}
-use lib.ListN.{take, replicate}
+use lib.ListN.{take, drop, replicate}
 use Rattle.serial.specs.declared.held.Held.{Held}
 use Rattle.serial.specs.Bits.{_⊕_, one?, bits, num}
 use Rattle.serial.specs.Serial.{scrambledBit, coded, codeWord, pastCoding}
@@ -21,6 +21,23 @@ scrambledBits past [] = []
 scrambledBits past (p ∷ ps) =
     let x = scrambledBit shortDelay longDelay past p in
     x ∷ scrambledBits (x ∷ take 8 past) ps
+
+-- the held bits four and none further on, as the low five bits need them
+abbrev earlierBits : List Bool → List Bool
+earlierBits held = xors (drop 4 held) held
+
+-- ten plain bits, the low five of which scrambled are moved up by five and by nine
+abbrev tenScrambled : List Bool → List Bool → List Bool
+tenScrambled held plain =
+    let low = xors plain (earlierBits held) in
+    take 10 (xors plain (xors (xors (take 32 (replicate 5 false ++ low)) (take 32 (replicate 9 false ++ low))) (earlierBits held)))
+
+scrambled-ten : (h : Held) (w : ℕ) → tenScrambled (bits 9 (h .scrambled)) (bits 10 w) ≡ scrambledBits (pastHeld h .scrambled) (bits 10 w)
+scrambled-ten h w = simp (xor-assoc, xor-false)
+
+pub is-scrambled : (h : Held) (w : ℕ) {s : ℕ} → Is s (tenScrambled (bits 9 (h .scrambled)) (bits 10 w))
+    → Is s (scrambledBits (pastHeld h .scrambled) (bits 10 w))
+is-scrambled h w is-s = record { eq = is-s .eq ∙ ap num (scrambled-ten h w) }
 
 -- the channel bits of scrambled bits: the running exclusive or
 abbrev pub running : Bool → List Bool → List Bool

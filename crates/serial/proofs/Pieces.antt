@@ -3,11 +3,10 @@
 use mathlib.Core.Path.{_≡_, refl, sym, ap, ap₂, _∙_}
 use mathlib.Core.Bool.{Bool, true, false}
 use mathlib.Core.List.{List, [], _∷_, _++_}
-use Prim.Native.Nat.{ℕ, zero, suc, _%_}
+use Prim.Native.Nat.{ℕ, suc, _%_}
 use native.Mathlib.Omega.{arith}
-use lib.ListN.{length, take}
+use lib.ListN.{length}
 use lib.Seq.{length-take-le}
-use Rattle.refusal.specs.declared.Refusal.{Refusal}
 use Rattle.serial.specs.declared.State.{State}
 use Rattle.serial.specs.declared.Answer.{Answer}
 use Rattle.serial.specs.Bits.{bits, num, digit, one?}
@@ -15,7 +14,7 @@ use Rattle.serial.specs.Serial.{Past, push, coderStep, decoderStep, afte
 use Rattle.serial.specs.Calls.{shortDelay, longDelay, pastOf, stateOf, serialRefusal, answered, written, codeAnswer, codeOutput, decodeAnswer, decodeOutput}
 use Rattle.serial.proofs.Bits.{bits-num}
 use Rattle.serial.proofs.Steps.{code, afterCode, decode, afterDecode}
-use Rattle.serial.proofs.Answers.{refused-call, accepted-call}
+use Rattle.serial.proofs.Answers.{accepted-call}
 
 -- ---- nine scrambled bits stay nine
 abbrev Nine : Past → Type 0

@@ -1,18 +1,18 @@
 -- The refusal of a serial call keeps to its table, the table decides, and what acceptance says of the input. Assumes nothing.
 use mathlib.Core.Path.{_≡_, refl, sym, ap, subst, _∙_}
-use mathlib.Core.Bool.{Bool, true, false, not, _||_, or-true, true≢false}
+use mathlib.Core.Bool.{Bool, true, false, _||_, or-true, true≢false}
 use mathlib.Core.Logic.{_⊎_, inl, inr, ⊎-elim}
 use mathlib.Core.List.{List}
 use Prim.Native.Nat.{ℕ, _<_, _≤_}
 use native.Mathlib.Omega.{arith}
 use lib.ListN.{length, getD}
-use lib.Dec.{ltb, eqb}
-use borrow.Author.Tests.{lt-ltb, le-ltb, ltb-true, ltb-false, eq-eqb, ne-eqb, eqb-true, eqb-false, not-true, not-false}
+use lib.Dec.{ltb}
+use borrow.Author.Tests.{lt-ltb, le-ltb, ltb-true, ltb-false, eq-eqb, eqb-true, not-false}
 use Rattle.refusal.specs.declared.Refusal.{Refusal}
 use Rattle.refusal.specs.Answer.{none, refuse, orElse, firstFrom}
 use Rattle.refusal.specs.Table.{Row, when, Lowest, Keeps}
 use Rattle.refusal.proofs.Firsts.{orElse-accepted, orElse-refused, orElse-none, first-none, first-none-back}
-use Rattle.refusal.proofs.Tables.{keeps-when, keeps-before, numbers-when, keeps-lowest, Decides, decides-when, decides-before, decides-lowest}
+use Rattle.refusal.proofs.Tables.{keeps-when, keeps-unequal, keeps-before, numbers-when, keeps-lowest, Decides, decides-when, decides-before, decides-lowest}
 use Rattle.serial.specs.declared.State.{State}
 use Rattle.serial.specs.Calls.{overAt, serialRefusal}
 use Rattle.serial.specs.Refusals.{serialRefusals}
@@ -63,8 +63,7 @@ module _ (s : State) (words : List ℕ) (room : ℕ) where
       (keeps-before _ _ _ _
       (keeps-when (ltb 65536 (length words)) (65536 < length words) 3 0 (ltb-true _ _) (lt-ltb _ _) (not-zero 3 (omega arith)))
       (keeps-before _ _ _ _
-      (keeps-when (not (eqb room (length words))) (room ≡ length words → ⊥) 3 1 (λ t. eqb-false _ _ (not-true _ t)) (λ h. ap not (ne-eqb _ _ h))
-      (not-zero 3 (omega arith)))
+      (keeps-unequal room (length words) 1)
       (subst (Keeps (Lowest (length words) (λ i. when (1023 < getD words i 0) 5 i))) (sym (over-alone words)) (over-exact words))))
 
   -- The table leaves one answer only.

@@ -43,10 +43,9 @@ fn code_word(held: Held, word: u16) -> Coded
     ensures bounded { λ r. ⌜ Bounded (r .after) ⌝ }
 {
     let plain = word as u32;
-    let low_five = plain ^ ((held.scrambled >> 4) ^ held.scrambled);
-    let five_earlier = (low_five << 5) ^ (held.scrambled >> 4);
-    let nine_earlier = (low_five << 9) ^ held.scrambled;
-    let scrambled = (plain ^ (five_earlier ^ nine_earlier)) & 1023;
+    let earlier = (held.scrambled >> 4) ^ held.scrambled;
+    let low_five = plain ^ earlier;
+    let scrambled = (plain ^ (((low_five << 5) ^ (low_five << 9)) ^ earlier)) & 1023;
     let by_two = scrambled ^ (scrambled << 1);
     let by_four = by_two ^ (by_two << 2);
     let by_eight = by_four ^ (by_four << 4);

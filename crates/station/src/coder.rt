@@ -3,8 +3,6 @@ ghost use mathlib.Core.Path.{_≡_};
 ghost use Prim.Native.Nat.{_/_, _≤_};
 ghost use lib.ListN.{length};
 use crate::status::Status;
-use crate::status::unread;
-use crate::status::unwritten;
 use libc::STDERR_FILENO;
 use libc::STDOUT_FILENO;
 use serial::Answer;
@@ -17,12 +15,23 @@ const PIECE: usize = 65536;
 // How many pieces pass between two reports of progress.
 const PIECES_A_REPORT: u64 = 64;
 
-// The state after so many words, and whether the input goes on, or how it ended.
+// The state after so many words, and whether the input goes on, or how it ended: a refusal's number.
 struct Stream {
     state: State,
     words: u64,
     is_open: bool,
     status: Status,
+    number: u64,
+}
+
+fn open(state: State, words: u64) -> Stream {
+    Stream {
+        state,
+        words,
+        is_open: true,
+        status: Status::Done,
+        number: 0,
+    }
 }
 
 fn ended(state: State, words: u64, status: Status) -> Stream {
@@ -31,15 +40,29 @@ fn ended(state: State, words: u64, status: Status) -> Stream {
         words,
         is_open: false,
         status,
+        number: 0,
     }
 }
 
-fn refused(name: &[u8], number: u64, word: u64, reason: &[u8]) -> Status {
+fn refused(state: State, words: u64, number: u64) -> Stream {
+    Stream {
+        state,
+        words,
+        is_open: false,
+        status: Status::Refused,
+        number,
+    }
+}
+
+fn say_refused(name: &[u8], number: u64, word: u64) {
     io::write_all(STDERR_FILENO, name);
     console::say(STDERR_FILENO, b": refused ", number);
     console::say(STDERR_FILENO, b", word ", word);
-    io::write_all(STDERR_FILENO, reason);
-    Status::Refused
+    if number == 3 {
+        io::write_all(STDERR_FILENO, b": half a word is left\n");
+        return;
+    }
+    io::write_all(STDERR_FILENO, b": it is over 1023\n");
 }
 
 fn least(a: usize, b: usize) -> usize
@@ -105,33 +128,8 @@ fn write_words(words: &[u16], bytes: &mut [u8]) -> bool {
     io::write_all(STDOUT_FILENO, bytes)
 }
 
-// What a stream comes to, with so many words more, where it stops short of a word, or of half a word.
-fn stopped(name: &[u8], state: State, words: u64, is_short: bool, is_odd: bool) -> Stream {
-    if is_short {
-        return ended(
-            state,
-            words,
-            refused(name, 5, words, b": it is over 1023\n"),
-        );
-    }
-    if is_odd {
-        return ended(
-            state,
-            words,
-            refused(name, 3, words, b": half a word is left\n"),
-        );
-    }
-    Stream {
-        state,
-        words,
-        is_open: true,
-        status: Status::Done,
-    }
-}
-
 // What a stream comes to where these bytes of it are read: its words are coded or decoded, and written.
 fn put_words(
-    name: &[u8],
     is_coding: bool,
     stream: Stream,
     bytes: &mut [u8],
@@ -147,14 +145,19 @@ fn put_words(
     let state = turned.state;
     let done = wrapping_add_u64(stream.words, good as u64);
     if !write_words(&out[0..good], &mut bytes[0..2 * good]) {
-        return ended(state, done, unwritten(name));
+        return ended(state, done, Status::Unwritten);
     }
-    stopped(name, state, done, good < count, is_odd)
+    if good < count {
+        return refused(state, done, 5);
+    }
+    if is_odd {
+        return refused(state, done, 3);
+    }
+    open(state, done)
 }
 
 // Takes one piece of the input.
 fn take_piece(
-    name: &[u8],
     is_coding: bool,
     stream: Stream,
     bytes: &mut [u8],
@@ -165,7 +168,7 @@ fn take_piece(
 {
     let filled = console::fill(bytes);
     if filled.is_failed {
-        return ended(stream.state, stream.words, unread(name));
+        return ended(stream.state, stream.words, Status::Unread);
     }
     let have = filled.have;
     if have == 0 {
@@ -173,7 +176,6 @@ fn take_piece(
     }
     let count = have / 2;
     put_words(
-        name,
         is_coding,
         stream,
         &mut bytes[0..have],
@@ -187,25 +189,14 @@ fn show(words: u64) {
 }
 
 // Takes pieces to the end of the input or the first refusal. The turns count down from a number that no input uses up.
-fn take_pieces(
-    name: &[u8],
-    is_coding: bool,
-    bytes: &mut [u8],
-    words: &mut [u16],
-    out: &mut [u16],
-) -> Status
+fn take_pieces(is_coding: bool, bytes: &mut [u8], words: &mut [u16], out: &mut [u16]) -> Stream
     requires { ⌜ (length (now words) ≡ length (now bytes) / 2) × (length (now out) ≡ length (now words)) ⌝ }
 {
     let is_shown = console::is_shown();
-    let mut stream = Stream {
-        state: State::fresh(),
-        words: 0,
-        is_open: true,
-        status: Status::Done,
-    };
+    let mut stream = open(State::fresh(), 0);
     let mut turns = u64::MAX;
     while turns > 0 && stream.is_open {
-        stream = take_piece(name, is_coding, stream, bytes, words, out);
+        stream = take_piece(is_coding, stream, bytes, words, out);
         turns -= 1;
         if is_shown && turns % PIECES_A_REPORT == 0 {
             show(stream.words);
@@ -214,12 +205,25 @@ fn take_pieces(
     if is_shown {
         console::end_show();
     }
-    stream.status
+    stream
+}
+
+// Says why a stream ended before its input did.
+fn tell(name: &[u8], stream: Stream) -> Status {
+    let status = stream.status;
+    if stream.number != 0 {
+        say_refused(name, stream.number, stream.words);
+    }
+    status.say_failure(name);
+    status
 }
 
 pub(crate) fn code_input(name: &[u8], is_coding: bool) -> Status {
     let mut bytes = [0u8; 2 * PIECE];
     let mut words = [0u16; PIECE];
     let mut out = [0u16; PIECE];
-    take_pieces(name, is_coding, &mut bytes, &mut words, &mut out)
+    tell(
+        name,
+        take_pieces(is_coding, &mut bytes, &mut words, &mut out),
+    )
 }

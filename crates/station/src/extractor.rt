@@ -1,7 +1,5 @@
 // `extract`: a recording in, the v210 rows of its V = 0 lines out.
 use crate::status::Status;
-use crate::status::unread;
-use crate::status::unwritten;
 use confirmation::Run;
 use libc::STDERR_FILENO;
 use libc::STDOUT_FILENO;
@@ -49,7 +47,7 @@ fn put_row(run: Run, bytes: &[u8], row: &mut [u8]) -> Tape {
         return ended(next, Status::Refused);
     }
     if programme::takes_row(walk) && !io::write_all(STDOUT_FILENO, row) {
-        return ended(next, unwritten(b"extract"));
+        return ended(next, Status::Unwritten);
     }
     open(next)
 }
@@ -58,7 +56,7 @@ fn put_row(run: Run, bytes: &[u8], row: &mut [u8]) -> Tape {
 fn take_line(run: Run, line: &mut [u8], row: &mut [u8]) -> Tape {
     let filled = console::fill(line);
     if filled.is_failed {
-        return ended(run, unread(b"extract"));
+        return ended(run, Status::Unread);
     }
     let have = filled.have;
     if have == 0 {
@@ -86,12 +84,13 @@ fn take_lines(run: Run, line: &mut [u8], row: &mut [u8]) -> Tape {
     tape
 }
 
-// Says the five lines of a run that a refusal or the end of the input ended.
+// Says the five lines of a run that a refusal or the end of the input ended, or what the system failed in.
 fn tell(tape: Tape) -> Status {
     let run = tape.run;
     let status = tape.status;
     match status {
-        Status::Failed => {}
+        Status::Unread => status.say_failure(b"extract"),
+        Status::Unwritten => status.say_failure(b"extract"),
         _ => {
             console::print_outcome(STDERR_FILENO, run.outcome());
         }
@@ -102,11 +101,11 @@ fn tell(tape: Tape) -> Status {
 pub(crate) fn extract_input() -> Status {
     let mut header = [0u8; 4];
     let filled = console::fill(&mut header);
-    if filled.is_failed {
-        return unread(b"extract");
-    }
     let have = filled.have;
     let run = Run::begin(&header[0..have]);
+    if filled.is_failed {
+        return tell(ended(run, Status::Unread));
+    }
     if run.number != 0 {
         return tell(ended(run, Status::Refused));
     }

@@ -1,7 +1,5 @@
 // `record`: v210 rows in, a recording out.
 use crate::status::Status;
-use crate::status::unread;
-use crate::status::unwritten;
 use libc::STDERR_FILENO;
 use libc::STDOUT_FILENO;
 use system::System625;
@@ -10,11 +8,13 @@ use system::Walk;
 // How many rows pass between two reports of progress.
 const ROWS_A_REPORT: u64 = 4096;
 
-// A walk over the lines that are written, and whether it goes on, or how it ended.
+// A walk over the lines that are written, and whether it goes on, or how it ended: a refusal's number and place.
 struct Tape {
     walk: Walk,
     is_open: bool,
     status: Status,
+    number: u32,
+    place: usize,
 }
 
 fn open(walk: Walk) -> Tape {
@@ -22,6 +22,8 @@ fn open(walk: Walk) -> Tape {
         walk,
         is_open: true,
         status: Status::Done,
+        number: 0,
+        place: 0,
     }
 }
 
@@ -30,6 +32,18 @@ fn ended(walk: Walk, status: Status) -> Tape {
         walk,
         is_open: false,
         status,
+        number: 0,
+        place: 0,
+    }
+}
+
+fn refused(walk: Walk, number: u32, place: usize) -> Tape {
+    Tape {
+        walk,
+        is_open: false,
+        status: Status::Refused,
+        number,
+        place,
     }
 }
 
@@ -44,23 +58,22 @@ fn say_reason(number: u32) -> bool {
     }
 }
 
-fn refused(number: u32, line: u32, place: usize) -> Status {
+fn say_refused(number: u32, line: u32, place: usize) {
     console::say(STDERR_FILENO, b"record: refused ", number as u64);
     console::say(STDERR_FILENO, b", line ", line as u64);
     console::say(STDERR_FILENO, b", place ", place as u64);
     io::write_all(STDERR_FILENO, b": ");
     say_reason(number);
-    Status::Refused
 }
 
 // Writes the line that the walk awaits, of this row where its V is 0.
 fn put_line(walk: Walk, row: &[u8], line: &mut [u8]) -> Tape {
     let judgement = programme::record(walk, row, line);
     if judgement.number != 0 {
-        return ended(walk, refused(judgement.number, walk.line, judgement.place));
+        return refused(walk, judgement.number, judgement.place);
     }
     if !io::write_all(STDOUT_FILENO, line) {
-        return ended(walk, unwritten(b"record"));
+        return ended(walk, Status::Unwritten);
     }
     open(judgement.walk)
 }
@@ -79,7 +92,7 @@ fn put_row(walk: Walk, row: &[u8], line: &mut [u8]) -> Tape {
 }
 
 // Writes the V = 1 lines up to the end of the frame, as far as there may be lines.
-fn end_frame(walk: Walk, line: &mut [u8]) -> Status {
+fn end_frame(walk: Walk, line: &mut [u8]) -> Tape {
     let mut tape = open(walk);
     let mut lines = System625::LINE_COUNT;
     while lines > 0
@@ -90,24 +103,26 @@ fn end_frame(walk: Walk, line: &mut [u8]) -> Status {
         tape = put_line(tape.walk, &[], line);
         lines -= 1;
     }
-    tape.status
+    let reached = tape.walk;
+    let status = tape.status;
+    ended(reached, status)
 }
 
 // Takes one row of the input.
 fn take_row(walk: Walk, row: &mut [u8], line: &mut [u8]) -> Tape {
     let filled = console::fill(row);
     if filled.is_failed {
-        return ended(walk, unread(b"record"));
+        return ended(walk, Status::Unread);
     }
     let have = filled.have;
     if have == 0 {
-        return ended(walk, end_frame(walk, line));
+        return end_frame(walk, line);
     }
     put_row(walk, &row[0..have], line)
 }
 
 // Takes rows to the end of the input or the first refusal. The turns count down from a number that no input uses up.
-fn take_rows(walk: Walk, row: &mut [u8], line: &mut [u8]) -> Status {
+fn take_rows(walk: Walk, row: &mut [u8], line: &mut [u8]) -> Tape {
     let is_shown = console::is_shown();
     let mut tape = open(walk);
     let mut turns = u64::MAX;
@@ -121,7 +136,18 @@ fn take_rows(walk: Walk, row: &mut [u8], line: &mut [u8]) -> Status {
     if is_shown {
         console::end_show();
     }
-    tape.status
+    tape
+}
+
+// Says why a tape ended before its input did.
+fn tell(tape: Tape) -> Status {
+    let walk = tape.walk;
+    let status = tape.status;
+    if tape.number != 0 {
+        say_refused(tape.number, walk.line, tape.place);
+    }
+    status.say_failure(b"record");
+    status
 }
 
 // The header: the system and the start line as words.
@@ -136,15 +162,15 @@ fn put_header(system: u32, start: u32) -> bool {
 
 pub(crate) fn record_input(system: u32, start: u32) -> Status {
     let fresh = system::fresh_walk(system, start);
+    let walk = fresh.walk;
     if fresh.number != 0 {
-        return refused(fresh.number, 0, fresh.place);
+        return tell(refused(walk, fresh.number, fresh.place));
     }
     if !put_header(system, start) {
-        return unwritten(b"record");
+        return tell(ended(walk, Status::Unwritten));
     }
-    let walk = fresh.walk;
     let size = confirmation::line_bytes(walk);
     let mut row = [0u8; v210::ROW_LENGTH];
     let mut line = [0u8; 2 * System625::LINE_LENGTH];
-    take_rows(walk, &mut row, &mut line[0..size])
+    tell(take_rows(walk, &mut row, &mut line[0..size]))
 }

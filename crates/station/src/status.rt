@@ -4,7 +4,9 @@ use libc::STDERR_FILENO;
 pub(crate) enum Status {
     Done,
     Refused,
-    Failed,
+    Unread,
+    Unwritten,
+    Misused,
 }
 
 impl Status {
@@ -13,23 +15,23 @@ impl Status {
         match self {
             Status::Done => b'0',
             Status::Refused => b'1',
-            Status::Failed => b'2',
+            Status::Unread => b'2',
+            Status::Unwritten => b'2',
+            Status::Misused => b'2',
+        }
+    }
+
+    // Says what the system failed in, right after it did. A failed read is never the end of the input.
+    pub(crate) fn say_failure(self, name: &[u8]) {
+        match self {
+            Status::Unread => console::say_unread(name),
+            Status::Unwritten => console::say_unwritten(name),
+            _ => {}
         }
     }
 }
 
-// A failed read is never the end of the input.
-pub(crate) fn unread(name: &[u8]) -> Status {
-    console::say_unread(name);
-    Status::Failed
-}
-
-pub(crate) fn unwritten(name: &[u8]) -> Status {
-    console::say_unwritten(name);
-    Status::Failed
-}
-
 pub(crate) fn misused(usage: &[u8]) -> Status {
     io::write_all(STDERR_FILENO, usage);
-    Status::Failed
+    Status::Misused
 }

@@ -1,10 +1,10 @@
 -- Laws of the systems' figures and of the walk, for those who cite them. Assumes nothing.
-use Prim.Native.Nat.{ℕ, _+_, _*_, _<_, _≤_}
+use Prim.Native.Nat.{ℕ, _+_, _*_, _%_, _<_, _≤_}
 use mathlib.Core.Path.{_≡_, refl, sym, ap, _∙_}
-use mathlib.Core.Bool.{Bool, true, false, cond, not, _&&_, _||_}
+use mathlib.Core.Bool.{Bool, true, false, _&&_}
 use native.Mathlib.Omega.{arith}
 use lib.Dec.{ltb, leb, eqb}
-use borrow.Author.Tests.{lt-ltb, le-ltb, le-leb, lt-leb, leb-true, leb-false, ltb-false, ltb-true, ne-eqb, eqb-true, eqb-false}
+use borrow.Author.Tests.{lt-ltb, le-ltb, le-leb, lt-leb, leb-true, leb-false, ltb-false, ltb-true, ne-eqb, eqb-false}
 use Rattle.refusal.specs.declared.Refusal.{Refusal}
 use Rattle.refusal.specs.Answer.{none, orElse}
 use Rattle.refusal.proofs.Cases.{by-cond, by-test}
@@ -12,7 +12,6 @@ use Rattle.timing.specs.declared.Report.{Report}
 use Rattle.system.specs.declared.System.{System}
 use Rattle.system.specs.declared.System.the-variants.{Lines525, Lines625}
 use Rattle.system.specs.declared.Walk.{Walk}
-use Rattle.system.specs.declared.Fresh.{Fresh}
 use Rattle.system.specs.Figures.{lineLength, savOffset, activeOffset, lineCount, between, isSystem, systemOf, nextLine}
 use Rattle.system.specs.Walk.{mostLines, isLine, walkRefusal, freshWalk, freshRefusal, freshOf, advancedOf, steppedOf}
 
@@ -28,6 +27,10 @@ sav-low Lines625 = omega arith
 pub sav-high : (s : System) → savOffset s ≤ 284
 sav-high Lines525 = omega arith
 sav-high Lines625 = omega arith
+
+pub sav-even : (s : System) → savOffset s % 2 ≡ 0
+sav-even Lines525 = refl
+sav-even Lines625 = refl
 
 pub line-count-low : (s : System) → 1 ≤ lineCount s
 line-count-low Lines525 = omega arith

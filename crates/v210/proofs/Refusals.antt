@@ -7,13 +7,13 @@ use Prim.Native.Nat.{ℕ, _<_, _≤_}
 use native.Mathlib.Omega.{arith}
 use lib.ListN.{length, getD}
 use lib.Dec.{ltb, eqb}
-use borrow.Author.Tests.{lt-ltb, le-ltb, ltb-true, ltb-false, eq-eqb, ne-eqb, eqb-true, eqb-false}
+use borrow.Author.Tests.{lt-ltb, le-ltb, ltb-true, ltb-false, eq-eqb, eqb-true}
 use Rattle.refusal.specs.declared.Refusal.{Refusal}
 use Rattle.refusal.specs.Answer.{none, refuse, orElse, firstFrom}
 use Rattle.refusal.specs.Table.{Row, when, _before_, Lowest, Keeps}
-use Rattle.refusal.proofs.Cases.{by-test, not-true, not-false}
+use Rattle.refusal.proofs.Cases.{by-test, not-false}
 use Rattle.refusal.proofs.Firsts.{orElse-accepted, orElse-refused, orElse-none, first-none, first-at, first-none-back}
-use Rattle.refusal.proofs.Tables.{keeps-when, keeps-before, keeps-last, numbers-when, keeps-lowest, Decides, decides-when, decides-before, decides-lowest}
+use Rattle.refusal.proofs.Tables.{keeps-unequal, keeps-before, keeps-last, numbers-when, keeps-lowest, Decides, decides-when, decides-before, decides-lowest}
 use Rattle.line.specs.Samples.{activeLength}
 use Rattle.v210.specs.Row.{rowLength, rowWords, rowWord, spareAt, spareRefusal, unpackRefusal, overAt, packRefusal}
 use Rattle.v210.specs.Refusals.{unpackRefusals, packRefusals}
@@ -74,9 +74,9 @@ module _ (a b : ℕ) (a-due b-due : ℕ) (last : Refusal) where
       → Keeps (when (a ≡ a-due → ⊥) 3 0 before when (b ≡ b-due → ⊥) 3 1 before table) answer
   lengths-exact table k =
       keeps-before _ _ (refuse (not (eqb a a-due)) 3 0) _
-      (keeps-when (not (eqb a a-due)) (a ≡ a-due → ⊥) 3 0 (λ t. eqb-false _ _ (not-true _ t)) (λ ne. ap not (ne-eqb _ _ ne)) (λ z. omega arith))
+      (keeps-unequal a a-due 0)
       (keeps-before _ _ (refuse (not (eqb b b-due)) 3 1) _
-      (keeps-when (not (eqb b b-due)) (b ≡ b-due → ⊥) 3 1 (λ t. eqb-false _ _ (not-true _ t)) (λ ne. ap not (ne-eqb _ _ ne)) (λ z. omega arith))
+      (keeps-unequal b b-due 1)
       (keeps-last _ last k))
 
   lengths-decide : (table : Row) → Decides table → Decides (when (a ≡ a-due → ⊥) 3 0 before when (b ≡ b-due → ⊥) 3 1 before table)

@@ -1,25 +1,18 @@
 -- `writer::put_line` meets its contract: its parts one after another are the line. Assumes nothing.
 use Prim.Native.Nat.{ℕ, _+_, _%_, _≤_}
-use mathlib.Core.Path.{_≡_, refl, ap}
+use mathlib.Core.Path.{_≡_, ap}
 use native.Mathlib.Omega.{arith}
 use denote.Ref.{now}
 use mir.Syntax.{w64}
 use mir.Val.{Fits}
 use lib.ListN.{length}
 use borrow.Author.Needs.{needs}
-use Rattle.system.specs.declared.System.{System}
-use Rattle.system.specs.declared.System.the-variants.{Lines525, Lines625}
-use Rattle.system.specs.Figures.{savOffset, activeOffset}
-use Rattle.system.proofs.Laws.{line-is-parts, sav-low}
+use Rattle.system.specs.Figures.{activeOffset}
+use Rattle.system.proofs.Laws.{line-is-parts, sav-low, sav-even}
 use Rattle.line.specs.Samples.{Samples, activeLength}
 use Rattle.writer.proofs.Whole.{Blanked, blanked, blank-whole, picture-whole}
 use Rattle.writer.proofs.put_line.Statement.{statement}
 use Rattle.writer.proofs.put_line.Tie as tie
-
--- SAV stands at an even offset, so that a pair of fill never crosses the end of a part
-sav-even : (s : System) → savOffset s % 2 ≡ 0
-sav-even Lines525 = refl
-sav-even Lines625 = refl
 
 -- the calls, each from the one after it
 abbrev start-of : tie.After-sav-offset → tie.Start

@@ -1,20 +1,17 @@
 -- `lent::pass::all_fill` meets its contract. The loop's invariant: where all was good so far, each pair passed is the two words. Two
 -- words of 16 bits are told apart in the one number. Assumes nothing.
 use borrow.Author.Needs.{needs}
-use mathlib.Core.Path.{_≡_, refl}
-use mathlib.Core.Bool.{Bool, true, false, _&&_}
+use mathlib.Core.Path.{_≡_}
+use mathlib.Core.Bool.{true}
 use Prim.Native.Nat.{_-_, _≤_}
 use native.Mathlib.Omega.{arith}
 use borrow.Author.Count.{below-more}
 use borrow.Author.Tests.{eqb-true}
 use lib.Dec.{eqb}
+use Rattle.refusal.proofs.Cases.{and-true}
 use Rattle.lent.specs.Passes.{Filled}
 use Rattle.lent.proofs.pass.all_fill.Statement.{statement}
 use Rattle.lent.proofs.pass.all_fill.Tie as tie
-
-and-true : (a b : Bool) → (a && b) ≡ true → (a ≡ true) × (b ≡ true)
-and-true true b e = (refl, e)
-and-true false b e = (e, cc)
 
 abbrev Inv-loop : tie.InvT-loop
 Inv-loop bytes from pairs even odd fill good₀ k₀ good k = (k ≤ pairs) × (good ≡ true → Filled even odd bytes from k)

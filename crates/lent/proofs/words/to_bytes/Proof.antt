@@ -1,8 +1,6 @@
 -- `lent::words::to_bytes` meets its contract: a refusal comes before the first store. Assumes nothing.
 use borrow.Author.Needs.{needs}
-use mathlib.Core.Path.{_≡_, sym, ap, _∙_}
-use native.Mathlib.Omega.{arith}
-use lib.ListN.{length}
+use mathlib.Core.Path.{sym, ap, _∙_}
 use Rattle.refusal.specs.declared.Refusal.{Refusal}
 use Rattle.lent.proofs.Bytes.{pairs-fit, filled-accepted, filled-refused}
 use Rattle.lent.proofs.words.to_bytes.Statement.{statement}

@@ -10,7 +10,7 @@ use lib.ListN.{getD}
 use borrow.Author.Tests.{eqb-true}
 use Rattle.line.specs.Due.{codeAt}
 use Rattle.line.specs.Fault.{faultWhere}
-use Rattle.reader.proofs.Tests.{and-true}
+use Rattle.refusal.proofs.Cases.{and-true}
 use Rattle.reader.proofs.pass.code_well.Statement.{statement}
 use Rattle.reader.proofs.pass.code_well.Tie as tie
 

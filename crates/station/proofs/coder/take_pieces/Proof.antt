@@ -7,17 +7,20 @@ use Rattle.station.proofs.coder.take_pieces.Statement.{statement}
 use Rattle.station.proofs.coder.take_pieces.Tie as tie
 
 abbrev Inv-loop : tie.InvT-loop
-Inv-loop name is-coding bytes₀ words₀ out₀ is-shown stream₀ turns₀ bytes words out stream turns =
+Inv-loop is-coding bytes₀ words₀ out₀ is-shown stream₀ turns₀ bytes words out stream turns =
     (length words ≡ length bytes / 2) × (length out ≡ length words) × (length bytes ≡ length bytes₀) × (length words ≡ length words₀) × (length out ≡ length out₀)
 
 abbrev μ-loop : tie.MeasureT-loop
-μ-loop name is-coding bytes₀ words₀ out₀ is-shown stream₀ turns₀ bytes words out stream turns = turns
+μ-loop is-coding bytes₀ words₀ out₀ is-shown stream₀ turns₀ bytes words out stream turns = turns
 
 is-shown-requires : tie.Need-is-shown-requires Inv-loop μ-loop
 is-shown-requires c κs = search needs
 
 fresh-requires : tie.Need-fresh-requires Inv-loop μ-loop
 fresh-requires c κs = search needs
+
+open-requires : tie.Need-open-requires Inv-loop μ-loop
+open-requires c κs = search needs
 
 loop-holds : tie.Need-loop-holds Inv-loop μ-loop
 loop-holds c = search needs
@@ -78,6 +81,7 @@ take-pieces-spec =
     μ-loop
     is-shown-requires
     fresh-requires
+    open-requires
     loop-holds
     take-piece-requires
     sub-turns

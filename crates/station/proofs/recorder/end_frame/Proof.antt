@@ -6,10 +6,10 @@ use Rattle.station.proofs.recorder.end_frame.Statement.{statement}
 use Rattle.station.proofs.recorder.end_frame.Tie as tie
 
 abbrev Inv-loop : tie.InvT-loop
-Inv-loop line₀ tape₀ lines₀ t5 line tape lines = length line ≡ length line₀
+Inv-loop line₀ tape₀ lines₀ t7 line tape lines = length line ≡ length line₀
 
 abbrev μ-loop : tie.MeasureT-loop
-μ-loop line₀ tape₀ lines₀ t5 line tape lines = lines
+μ-loop line₀ tape₀ lines₀ t7 line tape lines = lines
 
 open-requires : tie.Need-open-requires Inv-loop μ-loop
 open-requires c κs = search needs
@@ -38,29 +38,14 @@ loop-less c = search needs
 loop-again : tie.Need-loop-again Inv-loop μ-loop
 loop-again c = search needs
 
+ended-requires : tie.Need-ended-requires Inv-loop μ-loop
+ended-requires c κs = search needs
+
 same-length : tie.Need-same-length Inv-loop μ-loop
 same-length c = search needs
 
 returns : tie.Need-returns Inv-loop μ-loop
 returns c = search needs
-
-same-length-2 : tie.Need-same-length-2 Inv-loop μ-loop
-same-length-2 c = search needs
-
-returns-2 : tie.Need-returns-2 Inv-loop μ-loop
-returns-2 c = search needs
-
-same-length-3 : tie.Need-same-length-3 Inv-loop μ-loop
-same-length-3 c = search needs
-
-returns-3 : tie.Need-returns-3 Inv-loop μ-loop
-returns-3 c = search needs
-
-same-length-4 : tie.Need-same-length-4 Inv-loop μ-loop
-same-length-4 c = search needs
-
-returns-4 : tie.Need-returns-4 Inv-loop μ-loop
-returns-4 c = search needs
 
 pub end-frame-spec : {M : Type 1} → statement M
 end-frame-spec =
@@ -77,11 +62,6 @@ end-frame-spec =
     sub-lines
     loop-less
     loop-again
+    ended-requires
     same-length
-    returns
-    same-length-2
-    returns-2
-    same-length-3
-    returns-3
-    same-length-4
-    returns-4)
+    returns)
