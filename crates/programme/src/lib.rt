@@ -9,9 +9,6 @@ ghost use Rattle.programme.specs.Record.{dueAtWalk, takesRow, endsFrame}
 use line::Due;
 use system::Walk;
 
-// The samples of an active part, CB, Y, CR, Y repeated.
-pub(crate) const ACTIVE_LENGTH: usize = 1440;
-
 // What is due in the line that a walk awaits.
 pub(crate) fn due_at(walk: Walk) -> Due
     ensures { λ r. ⌜ r ≡ dueAtWalk walk ⌝ }

@@ -8,7 +8,7 @@ ghost use Rattle.v210.specs.Row.{rowLength, rowWords, rowWord, tenBits, 
 use refusal::Refusal;
 
 // The samples of an active part, the words that hold them, and their bytes.
-const SAMPLES: usize = 1440;
+pub const SAMPLES: usize = 1440;
 
 const ROW_WORDS: usize = 480;
 
