@@ -11,6 +11,7 @@ ghost use Rattle.line.specs.Samples.{activeLength};
 ghost use Rattle.lent.specs.Bytes.{wordOfBytes};
 ghost use Rattle.lent.specs.Passes.{LineBytes, SampleKey, Sampled, Filled, ActiveWell, CodeWell, Corrected, LineWell};
 use crate::words::word_at;
+use line::ACTIVE_LENGTH;
 use line::Due;
 use std::num::wrapping_add_u16;
 use system::System;
@@ -18,9 +19,6 @@ use system::System525;
 use system::System625;
 use timing::Correction;
 use timing::Report;
-
-// The words of an active part.
-const ACTIVE_LENGTH: usize = 1440;
 
 // The same 16 bits as a signed number: what is compiled of it is nothing.
 fn signed(word: u16) -> i16

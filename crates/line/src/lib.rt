@@ -6,6 +6,9 @@ ghost use Rattle.line.specs.Lengths.{bufferRefusal};
 use refusal::Refusal;
 use system::System;
 
+// The samples of an active part: CB, Y, CR, Y repeated.
+pub const ACTIVE_LENGTH: usize = 1440;
+
 // What is due in a line: its system, its F and V, and fill at even and odd offsets. With V = 1 the active part is fill.
 pub struct Due {
     pub system: System,

@@ -7,10 +7,10 @@ ghost use Rattle.lent.specs.Bytes.{wordsOf};
 ghost use Rattle.v210.specs.Row.{rowLength, packedOf};
 ghost use Rattle.programme.specs.Extract.{extractedOf, rowAfterLine};
 use crate::takes_row;
+use line::ACTIVE_LENGTH;
 use reader::Judgement;
 use refusal::Refusal;
 use system::Walk;
-use v210::SAMPLES;
 
 // Packs an active part's bytes into a row, by way of room for its words.
 fn pack_in(active: &[u8], part: &mut [u16], row: &mut [u8])
@@ -28,7 +28,7 @@ fn pack_active(active: &[u8], row: &mut [u8])
     requires { ⌜ ((i : ℕ) → i < activeLength → getD (wordsOf (now active)) i 0 ≤ 1023) ⌝ }
     ensures { λ _. ⌜ now (row .exit) ≡ packedOf (wordsOf (now (active .entry))) ⌝ }
 {
-    let mut part = [0u16; SAMPLES];
+    let mut part = [0u16; ACTIVE_LENGTH];
     pack_in(active, &mut part, row);
 }
 
@@ -68,7 +68,7 @@ pub fn extract(walk: Walk, bytes: &[u8], row: &mut [u8]) -> Judgement
     if !takes_row(walk) {
         return judgement;
     }
-    let start = size - 2 * SAMPLES;
+    let start = size - 2 * ACTIVE_LENGTH;
     pack_active(&bytes[start..size], row);
     judgement
 }

@@ -8,13 +8,13 @@ ghost use Rattle.line.specs.Samples.{activeLength, lineOf};
 ghost use Rattle.line.specs.Fit.{Measured};
 ghost use Rattle.programme.specs.Record.{dueAtWalk, rowSamples, unpackedRefusal, lineRefusal, recordedOf, lineBytesAfter};
 use crate::takes_row;
+use line::ACTIVE_LENGTH;
 use reader::Judgement;
 use refusal::Refusal;
 use system::System625;
 use system::Walk;
 use timing::CodeReport;
 use timing::Report;
-use v210::SAMPLES;
 
 // Unpacks a row into sample buffers, by way of room for its active part: 3 at 1 where it is short, then 5 at its first word with a spare
 // bit set.
@@ -67,10 +67,10 @@ fn write_line(walk: Walk, row: &[u8], words: &mut [u16]) -> Refusal
     ensures answer { λ r. ⌜ r ≡ lineRefusal walk (now (row .entry)) ⌝ }
     ensures words { λ r. ⌜ (r .number ≡ 0 → now (words .exit) ≡ lineOf (dueAtWalk walk) (rowSamples (now (row .entry)))) ⌝ }
 {
-    let mut part = [0u16; SAMPLES];
-    let mut y = [0u16; SAMPLES / 2];
-    let mut cb = [0u16; SAMPLES / 4];
-    let mut cr = [0u16; SAMPLES / 4];
+    let mut part = [0u16; ACTIVE_LENGTH];
+    let mut y = [0u16; ACTIVE_LENGTH / 2];
+    let mut cb = [0u16; ACTIVE_LENGTH / 4];
+    let mut cr = [0u16; ACTIVE_LENGTH / 4];
     write_in(walk, row, &mut part, &mut y, &mut cb, &mut cr, words)
 }
 

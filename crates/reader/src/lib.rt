@@ -18,17 +18,13 @@ ghost use Rattle.reader.specs.Judge.{dueIn, reportOf, judgedOf, refusedA
 ghost use Rattle.reader.specs.Split.{splitRefusal, splitAfter};
 use crate::pass::first_fault;
 use crate::take::take;
+use line::ACTIVE_LENGTH;
 use line::Due;
 use refusal::Refusal;
 use system::System;
 use system::Walk;
 use timing::CodeReport;
 use timing::Report;
-
-// The active part: groups CB, Y, CR, Y.
-pub(crate) const GROUPS: usize = 360;
-
-pub(crate) const ACTIVE_LENGTH: usize = 4 * GROUPS;
 
 // The answer to a line: its number and place, what is told of its two codes, and the walk after it.
 pub struct Judgement {

@@ -3,7 +3,10 @@ ghost use mathlib.Core.Path.{_≡_};
 ghost use Prim.Native.Nat.{_+_, _≤_};
 ghost use lib.ListN.{length};
 ghost use Rattle.line.specs.Samples.{activeLength, yLength, cLength, ysFrom, cbsFrom, crsFrom};
-use crate::GROUPS;
+use line::ACTIVE_LENGTH;
+
+// The groups CB, Y, CR, Y of an active part.
+const GROUPS: usize = ACTIVE_LENGTH / 4;
 
 // Takes the samples of the active part that starts at an offset, group by group.
 pub(crate) fn take(words: &[u16], active: usize, y: &mut [u16], cb: &mut [u16], cr: &mut [u16])

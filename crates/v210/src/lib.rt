@@ -5,13 +5,13 @@ ghost use lib.ListN.{length, getD};
 ghost use Rattle.refusal.specs.Answer.{firstFrom};
 ghost use Rattle.line.specs.Samples.{activeLength};
 ghost use Rattle.v210.specs.Row.{rowLength, rowWords, rowWord, tenBits, unpackedOf, samplesWord, eightBits, packedOf, spareRefusal, unpackRefusal, overAt, packRefusal, samplesAfter, rowAfter};
+use line::ACTIVE_LENGTH;
 use refusal::Refusal;
 
-// The samples of an active part, the words that hold them, and their bytes.
-pub const SAMPLES: usize = 1440;
+// The words that hold the samples of an active part.
+const ROW_WORDS: usize = ACTIVE_LENGTH / 3;
 
-const ROW_WORDS: usize = 480;
-
+// Their bytes.
 pub const ROW_LENGTH: usize = 4 * ROW_WORDS;
 
 // The highest word whose two spare bits are 0.
@@ -67,7 +67,7 @@ fn unpack_refusal(row: &[u8], room: usize) -> Refusal
             place: 0,
         };
     }
-    if room != SAMPLES {
+    if room != ACTIVE_LENGTH {
         return Refusal {
             number: 3,
             place: 1,
@@ -115,7 +115,7 @@ fn over_refusal(samples: &[u16]) -> Refusal
     requires { ⌜ length (now samples) ≡ activeLength ⌝ }
     ensures { λ r. ⌜ r ≡ firstFrom (overAt (now (samples .entry))) 0 activeLength ⌝ }
 {
-    for place in 0..SAMPLES {
+    for place in 0..ACTIVE_LENGTH {
         if samples[place] > 1023 {
             return Refusal { number: 5, place };
         }
@@ -126,7 +126,7 @@ fn over_refusal(samples: &[u16]) -> Refusal
 fn pack_refusal(samples: &[u16], room: usize) -> Refusal
     ensures { λ r. ⌜ r ≡ packRefusal (now (samples .entry)) room ⌝ }
 {
-    if samples.len() != SAMPLES {
+    if samples.len() != ACTIVE_LENGTH {
         return Refusal {
             number: 3,
             place: 0,
