@@ -121,7 +121,8 @@ fn print(run: Run) {
     }
 }
 
-// The lines behind the header, in a buffer that is cut to a whole number of them.
+// The lines behind the header, in a buffer that holds LINES_HELD of the longer lines and is cut to a whole number of them. No result is
+// printed where the input could not be read: a shorter file must not be confirmed in its place.
 fn confirm(run: Run, buffer: &mut [u8])
     requires { ⌜ 96 * lineLength Lines625 ≤ length (now buffer) ⌝ }
 {
