@@ -4,7 +4,7 @@ ghost use Prim.Native.Nat.{ℕ, _+_, _*_, _/_, _%_, _<_, _≤_};
 ghost use lib.ListN.{length, getD};
 ghost use Rattle.refusal.specs.Answer.{firstFrom};
 ghost use Rattle.line.specs.Samples.{activeLength};
-ghost use Rattle.v210.specs.Row.{rowLength, rowWords, rowWord, tenBits, unpackedOf, samplesWord, eightBits, packedOf, spareRefusal, unpackRefusal, overAt, packRefusal, samplesAfter, rowAfter};
+ghost use Rattle.v210.specs.Row.{rowLength, rowWord, unpackedOf, packedOf, spareRefusal, unpackRefusal, overAt, packRefusal, samplesAfter, rowAfter};
 use line::ACTIVE_LENGTH;
 use refusal::Refusal;
 
