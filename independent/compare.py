@@ -2,9 +2,10 @@
 
 Run: python3 -m independent.compare --probe "CMD ARGS" --confirm "CMD ARGS"
 The probe takes cases on standard input and gives answers on standard output
-(see protocol.py); the confirm command is the confirming program. A difference
-is shown with its case, and the input that reproduces it is kept in a file.
-The last line tells how many comparisons passed and how many failed.
+(see protocol.py); the confirm command is the confirming program, of which
+standard error and status are compared too. A difference is shown with its
+case, and the input that reproduces it is kept in a file. The last line tells
+how many comparisons passed and how many failed.
 """
 
 import argparse
@@ -20,10 +21,10 @@ from collections import Counter, deque
 from concurrent.futures import ThreadPoolExecutor
 from pathlib import Path
 from threading import Timer
-from typing import NamedTuple
 
 from independent import judge, protocol, stream
 from independent.cases import cases
+from independent.command import Answer, told_answer
 from independent.material import Choice
 from independent.runs import FILE, PIPE, runs
 
@@ -36,13 +37,6 @@ SHOWN_PER_FAMILY = 10
 TIMEOUT_SECONDS = 300
 LIMIT_TIMEOUT_SECONDS = 1_800
 CONFIRM = "confirm"
-
-
-class Outcome(NamedTuple):
-    """What a command wrote, and how it ended."""
-
-    output: bytes
-    ending: str
 
 
 class Tally:
@@ -78,8 +72,8 @@ class Tally:
         print(f"{self.passed.total()} passed, {self.failed.total()} failed")
 
 
-def ending_of(process, errors):
-    return f"status {process.returncode} {errors[-300:].decode(errors='replace')}".strip()
+def ending_of(outcome):
+    return f"status {outcome.status} {outcome.errors[-300:].decode(errors='replace')}".strip()
 
 
 def run_with(command, **standard_input):
@@ -89,8 +83,8 @@ def run_with(command, **standard_input):
             command, capture_output=True, timeout=TIMEOUT_SECONDS, **standard_input
         )
     except subprocess.TimeoutExpired:
-        return Outcome(b"", "did not end in time")
-    return Outcome(done.stdout, ending_of(done, done.stderr))
+        return Answer(b"", b"did not end in time", None)
+    return Answer(done.stdout, done.stderr, done.returncode)
 
 
 def run_with_pieces(command, pieces, one_by_one, timeout=TIMEOUT_SECONDS):
@@ -106,7 +100,7 @@ def run_with_pieces(command, pieces, one_by_one, timeout=TIMEOUT_SECONDS):
         timer.cancel()
         output.seek(0)
         errors.seek(0)
-        return Outcome(output.read(), ending_of(process, errors.read()))
+        return Answer(output.read(), errors.read(), process.returncode)
 
 
 def hand_over(process, pieces, one_by_one):
@@ -169,7 +163,7 @@ def compare_batch(tally, batch, outcome):
         end = start + protocol.answer_size(case, expected, outcome.output, start)
         got = outcome.output[start : end if position < len(batch) else None]
         start = end
-        compare_case(tally, case, data, expected, got, outcome.ending)
+        compare_case(tally, case, data, expected, got, ending_of(outcome))
 
 
 def compare_case(tally, case, data, expected, got, ending):
@@ -187,11 +181,12 @@ def compare_case(tally, case, data, expected, got, ending):
     tally.compare(case.family, name, data, expected, got, explain)
 
 
-def explain_outputs(expected, outcome):
-    return (
-        f"  expected: {expected.decode().split()}\n"
-        f"  got:      {outcome.output.decode(errors='replace').split()}, {outcome.ending}"
-    )
+def shown_outcome(outcome):
+    return f"{outcome.output.decode(errors='replace').split()}, {ending_of(outcome)}"
+
+
+def explain_outcomes(expected, outcome):
+    return f"  expected: {shown_outcome(expected)}\n  got:      {shown_outcome(outcome)}"
 
 
 def run_confirm(command, run):
@@ -217,14 +212,14 @@ def compare_confirm(tally, command, jobs, all_runs):
 
 
 def compare_run(tally, run, outcome):
-    expected = judge.confirm(run.data)
+    expected = told_answer("confirm", judge.confirm(run.data))
 
     def explain():
         given = f"  {len(run.data)} bytes, handed over by {run.delivery}\n"
-        return given + explain_outputs(expected, outcome)
+        return given + explain_outcomes(expected, outcome)
 
     name = f"{run.family}, index {run.index}"
-    tally.compare(run.family, name, run.data, expected, outcome.output, explain)
+    tally.compare(run.family, name, run.data, expected, outcome, explain)
 
 
 def compare_limit(tally, command, jobs):
@@ -237,16 +232,16 @@ def compare_limit(tally, command, jobs):
 
 
 def compare_long_run(tally, run, outcome):
-    expected = stream.expected_output(run)
+    expected = told_answer("confirm", stream.expected_output(run))
 
     def explain():
         given = "  the input file holds the arguments of stream.py\n"
-        return given + explain_outputs(expected, outcome)
+        return given + explain_outcomes(expected, outcome)
 
     repaired = " repaired" if run.repaired else ""
     arguments = f"{run.system} {run.start} {run.lines} {run.tail}{repaired}"
     name = f"limit, {arguments}"
-    tally.compare("limit", name, arguments.encode(), expected, outcome.output, explain)
+    tally.compare("limit", name, arguments.encode(), expected, outcome, explain)
 
 
 def options_of(arguments):

@@ -1,18 +1,11 @@
-"""The four programs between picture rows and recordings, and between plain and coded words.
+"""Picture rows into recordings and back, and plain words into coded ones and back.
 
-Run: python3 -m independent.programme record SYSTEM START
-     python3 -m independent.programme extract
-     python3 -m independent.programme scramble
-     python3 -m independent.programme descramble
-Each answers its standard input as the program of that name must. A row is what
-FFmpeg's v210 holds of a picture's row: the 1440 samples of an active part,
-three to a word of 32 bits, the first in the lowest bits, low byte first.
+A row is what FFmpeg's v210 holds of a picture's row: the 1440 samples of an
+active part, three to a word of 32 bits, the first in the lowest bits, low byte
+first. What the command says of all this, and of files, is in command.py.
 """
 
-import re
 import struct
-import sys
-from typing import NamedTuple
 
 from independent import judge
 from independent.material import inverted, line_after, samples_of
@@ -27,34 +20,16 @@ ROW_BYTES = 4 * ROW_WORDS
 # A line with V = 1 is fill, whatever samples are given for it.
 NO_SAMPLES = [0] * judge.ACTIVE_WORDS
 
-NUMBER = re.compile("[0-9]{1,9}")
-
-RECORD_TEXTS = {
-    judge.NO_SYSTEM: "the system is neither 525 nor 625",
-    judge.NO_LINE: "the start line is not one of the system",
-    judge.WRONG_LENGTH: "the last row is short",
-    judge.WRONG_COUNTS: "10000000 lines are written",
-    judge.OVER_A_WORD: "spare bits are set in a word of the row",
-    judge.NOT_A_SAMPLE: "a sample is outside 4 to 1019",
-}
-SERIAL_TEXTS = {
-    judge.OVER_A_WORD: "it is over 1023",
-    judge.WRONG_LENGTH: "half a word is left",
-}
-
-TAKEN, STOPPED, WRONG_USE = range(3)
-
-
-class Answer(NamedTuple):
-    """What a program writes on standard output and standard error, and its status."""
-
-    output: bytes
-    errors: bytes
-    status: int
+# Recordings of one programme are numbered with four digits, from 1 on.
+LAST_NUMBER = 9_999
 
 
 class Refused(Exception):
     """A row that is not recorded, with number, awaited line and place."""
+
+
+class Unnumbered(Exception):
+    """A row for which no further recording can be numbered."""
 
 
 def parts(data, size):
@@ -89,11 +64,11 @@ def row_refusal(row):
 
 
 class Recorder:
-    """A recording while it is written: the awaited line, the lines written, the bytes."""
+    """Recordings while they are written: the awaited line, the last one's lines, all bytes."""
 
-    def __init__(self, system, start, lines=0):
-        self.system, self.line, self.lines = system, start, lines
-        self.output = bytearray(header(system, start))
+    def __init__(self, system, start, lines=0, most=None):
+        self.system, self.line, self.lines, self.most = system, start, lines, most
+        self.pieces = [bytearray(header(system, start))]
 
     def awaits_fill(self):
         return judge.due_v(self.system, self.line)
@@ -103,25 +78,39 @@ class Recorder:
             number, place = refusal
             raise Refused(number, self.line, place)
 
-    def refuse_beyond_limit(self):
+    def is_full(self):
+        """Whether a frame more would be over the most lines; without a most it never is."""
+        after = self.lines + judge.SYSTEMS[self.system].lines
+        return self.most is not None and self.line == 1 and after > self.most
+
+    def begin_piece(self):
+        if len(self.pieces) == LAST_NUMBER:
+            raise Unnumbered
+        self.pieces.append(bytearray(header(self.system, self.line)))
+        self.lines = 0
+
+    def make_room(self):
+        """Go on in a next recording where this one is full, or refuse."""
+        if self.is_full():
+            self.begin_piece()
         beyond = self.lines >= judge.LINES_LIMIT
         self.refuse_if((judge.WRONG_COUNTS, 0) if beyond else None)
 
     def put_line(self, samples):
         empty = [0] * judge.SYSTEMS[self.system].words
         written = judge.write(self.system, self.line, *samples_of(samples), empty)
-        self.output += pack_slice(written[2])
+        self.pieces[-1] += pack_slice(written[2])
         self.line = line_after(self.system, self.line, 1)
         self.lines += 1
 
     def put_fill(self):
-        self.refuse_beyond_limit()
+        self.make_room()
         self.put_line(NO_SAMPLES)
 
     def put_row(self, row):
         while self.awaits_fill():
             self.put_fill()
-        self.refuse_beyond_limit()
+        self.make_room()
         self.refuse_if(row_refusal(row))
         self.put_line(samples_of_row(row))
 
@@ -134,19 +123,51 @@ class Recorder:
         while self.lines and self.awaits_fill() and self.line != 1:
             self.put_fill()
 
+    def put_all(self, data):
+        self.put_rows(data)
+        self.close()
 
-def record(system, start, data):
-    """The recording of the rows, and the refusal as number, line and place, or None."""
+
+def stop_of(call, *arguments):
+    """Why a recorder's call did not write all, or None."""
+    try:
+        call(*arguments)
+    except (Refused, Unnumbered) as stopped:
+        return stopped
+    return None
+
+
+def record_pieces(system, start, data, most=None):
+    """The recordings of the rows, in turn, and why not all were taken, or None."""
     refusal = judge.line_number_refusal(system, start)
     if refusal:
-        return b"", (refusal[0], 0, 0)
-    recorder = Recorder(system, start)
-    try:
-        recorder.put_rows(data)
-        recorder.close()
-    except Refused as refused:
-        return bytes(recorder.output), refused.args
-    return bytes(recorder.output), None
+        return [], Refused(refusal[0], 0, 0)
+    recorder = Recorder(system, start, most=most)
+    stopped = stop_of(recorder.put_all, data)
+    return list(map(bytes, recorder.pieces)), stopped
+
+
+def record(system, start, data):
+    """The one recording of the rows, and the refusal as number, line and place, or None."""
+    pieces, stopped = record_pieces(system, start, data)
+    return b"".join(pieces), stopped and stopped.args
+
+
+def most_lines(system, frames=None):
+    """The most lines of a recording of many: whole frames, if so many are asked for."""
+    asked = judge.LINES_LIMIT if frames is None else frames * judge.SYSTEMS[system].lines
+    return min(asked, judge.LINES_LIMIT)
+
+
+def line_count(data):
+    """How many whole lines a recording has."""
+    return len(data[4:]) // (2 * judge.SYSTEMS[judge.header_of(data)[0]].words)
+
+
+def awaited_line(data):
+    """The line after the last one of a recording."""
+    system, start = judge.header_of(data)
+    return line_after(system, start, line_count(data))
 
 
 def lines_of(data):
@@ -209,46 +230,6 @@ def descramble(data):
     return serial(judge.decode, data)
 
 
-def usage(program):
-    parameters = " SYSTEM START" if program == "record" else ""
-    return Answer(b"", f"usage: {program}{parameters}\n".encode(), WRONG_USE)
-
-
-def record_answer(arguments, data):
-    if len(arguments) != 2 or not all(map(NUMBER.fullmatch, arguments)):
-        return usage("record")
-    output, refusal = record(*map(int, arguments), data)
-    if not refusal:
-        return Answer(output, b"", TAKEN)
-    number, line, place = refusal
-    said = f"record: refused {number}, line {line}, place {place}: {RECORD_TEXTS[number]}\n"
-    return Answer(output, said.encode(), STOPPED)
-
-
-def extract_answer(data):
-    rows, five_lines = extract(data)
-    confirmed = five_lines.endswith(b"\nRESULT 0 0 0\n")
-    return Answer(rows, five_lines, TAKEN if confirmed else STOPPED)
-
-
-def serial_answer(program, data):
-    output, refusal = {"scramble": scramble, "descramble": descramble}[program](data)
-    if not refusal:
-        return Answer(output, b"", TAKEN)
-    number, index = refusal
-    said = f"{program}: refused {number}, word {index}: {SERIAL_TEXTS[number]}\n"
-    return Answer(output, said.encode(), STOPPED)
-
-
-def answer(program, arguments, data):
-    """What a program answers to the arguments and bytes it is given."""
-    if program == "record":
-        return record_answer(arguments, data)
-    if arguments:
-        return usage(program)
-    return extract_answer(data) if program == "extract" else serial_answer(program, data)
-
-
 def damaged(source, data):
     """A recording with one bit of the seven inverted in every code, and any low bits."""
     system, start = judge.header_of(data)
@@ -284,7 +265,40 @@ def recorded_lines():
         yield f"a row at {system} {start}", (len(output), refusal), (size, None)
     for system, rows in ((525, 487), (625, 576)):
         frame = record(system, 1, BLACK_ROW * rows)[0]
-        yield f"a frame of {system}", len(lines_of(frame)), system
+        yield f"a frame of {system}", (line_count(frame), awaited_line(frame)), (system, 1)
+
+
+def recorded_pieces():
+    """The lines of each recording, if those of so many frames make one full."""
+    for system, start, frames, rows, lines in (
+        (625, 1, 1, 576, [625]), (625, 1, 1, 577, [625, 23]), (625, 1, 2, 577, [648]),
+        (625, 600, 1, 24, [26]), (625, 600, 1, 25, [26, 23]), (625, 600, 2, 601, [651, 23]),
+        (525, 1, 1, 488, [525, 20]), (525, 525, 1, 1, [1]), (525, 525, 1, 489, [1, 525, 20]),
+        (525, 525, 2, 489, [526, 20]), (525, 3, 1, 1, [18]), (525, 1, 1, 0, [0]),
+    ):  # fmt: skip
+        pieces = record_pieces(system, start, BLACK_ROW * rows, most_lines(system, frames))[0]
+        name = f"{rows} rows at {system} {start}, {frames} frames"
+        yield name, list(map(line_count, pieces)), lines
+        starts = [judge.header_of(piece)[1] for piece in pieces]
+        yield f"{name}, starts", starts, [start, 1, 1][: len(lines)]
+
+
+def full_pieces():
+    """A recording is full where line 1 is awaited and no frame more has a place."""
+    for system, line, lines, frames, full in (
+        (625, 1, 9_999_375, None, False), (625, 1, 9_999_376, None, True),
+        (625, 2, 10_000_000, None, False), (525, 1, 9_999_475, None, False),
+        (525, 1, 9_999_476, None, True), (525, 1, 0, 1, False), (525, 1, 1, 1, True),
+        (525, 1, 525, 2, False), (525, 1, 526, 2, True), (625, 1, 9_999_376, 99_999, True),
+    ):  # fmt: skip
+        recorder = Recorder(system, line, lines, most_lines(system, frames))
+        yield f"{lines} lines at {system} {line}, {frames}", recorder.is_full(), full
+    recorder = Recorder(625, 1, 625, most_lines(625, 1))
+    recorder.pieces *= 9_998
+    yield "recording 9999", stop_of(recorder.put_fill), None
+    recorder.line, recorder.lines = 1, 625
+    yield "recording 10000", type(stop_of(recorder.put_fill)), Unnumbered
+    yield "9999 recordings", (len(recorder.pieces), len(recorder.pieces[-1])), (9_999, 3_460)
 
 
 def recorded_rows():
@@ -310,19 +324,6 @@ def refused_rows():
         ("both", with_word(high, 400, 1 << 30), (5, 20, 400)),
     ):
         yield name, record(525, 19, data), (fill, refusal)
-    said = b"record: refused 12, line 20, place 5: a sample is outside 4 to 1019\n"
-    yield "said", record_answer(["525", "19"], high), Answer(fill, said, 1)
-    yield "not a number", record_answer(["525", "x"], b"")[::2], (b"", 2)
-
-
-def refusal_at(system, line, lines, call):
-    """The refusal of a recorder's call when so many lines are written."""
-    recorder = Recorder(system, line, lines)
-    try:
-        call(recorder)
-    except Refused as refused:
-        return refused.args
-    return None
 
 
 def recording_limit():
@@ -335,17 +336,18 @@ def recording_limit():
         ("end of frame beyond", 624, 9_999_999, Recorder.close, (4, 625, 0)),
         ("nothing more", 1, 10_000_000, Recorder.close, None),
     ):
-        yield name, refusal_at(625, line, lines, call), refusal
+        stopped = stop_of(call, Recorder(625, line, lines))
+        yield name, stopped and stopped.args, refusal
 
 
 def extracted_rows():
     clean = record(625, 309, BLACK_ROW * 3)[0]
     five = b"SYSTEM 625\nSTART 309\nLINES 28\nREPAIRS 0\nRESULT 0 0 0\n"
-    yield "clean", extract_answer(clean), Answer(BLACK_ROW * 3, five, 0)
+    yield "clean", extract(clean), (BLACK_ROW * 3, five)
     five = b"SYSTEM 625\nSTART 309\nLINES 27\nREPAIRS 0\nRESULT 3 336 0\n"
-    yield "a byte short", extract_answer(clean[:-1]), Answer(BLACK_ROW * 2, five, 1)
+    yield "a byte short", extract(clean[:-1]), (BLACK_ROW * 2, five)
     five = b"SYSTEM 0\nSTART 0\nLINES 0\nREPAIRS 0\nRESULT 1 0 0\n"
-    yield "no header", extract_answer(clean[:3]), Answer(b"", five, 1)
+    yield "no header", extract(clean[:3]), (b"", five)
 
 
 def serial_words():
@@ -354,11 +356,8 @@ def serial_words():
     yield "M10 undone", descramble(coded), (plain, None)
     yield "no words", scramble(b""), (b"", None)
     yield "half a word", scramble(b"\0"), (b"", (3, 0))
-    over = plain + b"\0\4" + plain[1:]
-    said = b"descramble: refused 5, word 2: it is over 1023\n"
-    yield "over", serial_answer("descramble", coded + over[4:]), Answer(plain, said, 1)
-    said = b"scramble: refused 3, word 2: half a word is left\n"
-    yield "half at the end", serial_answer("scramble", plain + b"\4"), Answer(coded, said, 1)
+    yield "over", descramble(coded + b"\0\4" + plain[1:]), (plain, (5, 2))
+    yield "half at the end", scramble(plain + b"\4"), (coded, (3, 2))
     many = pack_slice([n % 1024 for n in range(70_000)])
     yield "many words", descramble(scramble(many)[0]), (many, None)
 
@@ -366,21 +365,11 @@ def serial_words():
 GROUPS = (
     picture_rows,
     recorded_lines,
+    recorded_pieces,
+    full_pieces,
     recorded_rows,
     refused_rows,
     recording_limit,
     extracted_rows,
     serial_words,
 )
-
-
-def main():
-    program, *arguments = sys.argv[1:]
-    output, errors, status = answer(program, arguments, sys.stdin.buffer.read())
-    sys.stdout.buffer.write(output)
-    sys.stderr.buffer.write(errors)
-    return status
-
-
-if __name__ == "__main__":
-    sys.exit(main())

@@ -5,7 +5,7 @@ Run: python3 -m independent.selftest
 
 import sys
 
-from independent import judge, programme
+from independent import command_selftest, judge, programme
 from independent.material import changed, fourth_offsets
 from independent.protocol import pack_slice
 from independent.runs import header
@@ -258,6 +258,7 @@ GROUPS = (
     captures,
     confirmed_runs,
     *programme.GROUPS,
+    *command_selftest.GROUPS,
 )
 
 

@@ -1,4 +1,8 @@
-// What the confirming program decides: a run over the bytes of a recording, however they arrive.
+// What the confirming program decides: a run over the bytes of a recording, however they arrive, and the sums over several.
+mod totals;
+
+pub use totals::Totals;
+pub use totals::follows_on;
 ghost use mathlib.Core.Path.{_≡_};
 ghost use Prim.Native.Nat.{_+_, _*_, _≤_};
 ghost use Rattle.system.specs.declared.System.the-variants.{Lines625};

@@ -1,14 +1,83 @@
-// What the programs share: filling a buffer from standard input, and saying how a run goes. What comes of these calls is up to the
-// system, so no contract can determine it.
+// What the verbs share: reading a recording's start, filling a buffer, and saying how a run goes and how it ended. What comes of these
+// calls is up to the system, so no contract can determine it.
+mod name;
+mod refusal;
+
+pub use name::say_name;
+pub use refusal::say_refused;
 ghost use Prim.Native.Nat.{_≤_};
 ghost use lib.ListN.{length};
 use confirmation::Outcome;
+use confirmation::Run;
+use confirmation::Totals;
 use libc::STDERR_FILENO;
 use libc::STDIN_FILENO;
+use libc::STDOUT_FILENO;
 use system::System;
 use system::System525;
 use system::System625;
 use system::Walk;
+
+// How reading or writing ended. A failed read is never the end of the input. What Failed stands for was said where it happened.
+pub enum Status {
+    Done,
+    Refused,
+    Unread,
+    Unwritten,
+    Failed,
+}
+
+impl Status {
+    // The exit status that it stands for.
+    pub fn code(self) -> u32 {
+        match self {
+            Status::Done => 0,
+            Status::Refused => 1,
+            Status::Unread => 2,
+            Status::Unwritten => 2,
+            Status::Failed => 2,
+        }
+    }
+
+    // Says what the system failed in, right after it did. With no name it was standard input.
+    pub fn say_failure(self, verb: &[u8], name: &[u8]) {
+        match self {
+            Status::Unread => say_unread(verb, name),
+            Status::Unwritten => say_unwritten(verb),
+            _ => {}
+        }
+    }
+}
+
+// A run over a recording, and how it ended.
+pub struct Read {
+    pub run: Run,
+    pub status: Status,
+}
+
+impl Read {
+    // A run that came to its end or to a refusal.
+    pub fn ended(run: Run) -> Read {
+        if run.number == 0 {
+            return Read {
+                run,
+                status: Status::Done,
+            };
+        }
+        Read {
+            run,
+            status: Status::Refused,
+        }
+    }
+
+    // A run that could not be read on.
+    pub fn unread(run: Run) -> Read {
+        Read {
+            run,
+            status: Status::Unread,
+        }
+    }
+}
 
 // How many bytes of a buffer were filled, and whether a failed read ended it, not the end of the input.
 pub struct Filled {
@@ -17,12 +86,12 @@ pub struct Filled {
 }
 
 // Reads until the buffer is full, the input ends or a read fails.
-pub fn fill(buffer: &mut [u8]) -> Filled
+pub fn fill(input: i32, buffer: &mut [u8]) -> Filled
     ensures { λ r. ⌜ r .have ≤ length (now (buffer .exit)) ⌝ }
 {
     let mut have: usize = 0;
     while have < buffer.len() {
-        let got = libc::read(STDIN_FILENO, &mut buffer[have..]);
+        let got = libc::read(input, &mut buffer[have..]);
         let more = io::count(got, &buffer[have..]);
         if more == 0 {
             return Filled {
@@ -38,6 +107,18 @@ pub fn fill(buffer: &mut [u8]) -> Filled
     }
 }
 
+// Reads a recording's header.
+pub fn begin(input: i32) -> Read {
+    let mut header = [0u8; 4];
+    let filled = fill(input, &mut header);
+    let have = filled.have;
+    let run = Run::begin(&header[0..have]);
+    if filled.is_failed {
+        return Read::unread(run);
+    }
+    Read::ended(run)
+}
+
 // Writes some text and a number. True where all of it was written.
 pub fn say(output: i32, text: &[u8], number: u64) -> bool {
     if io::write_all(output, text) {
@@ -46,15 +127,66 @@ pub fn say(output: i32, text: &[u8], number: u64) -> bool {
     false
 }
 
-// Writes the confirming program's five lines. True where all of them were written.
-pub fn print_outcome(output: i32, outcome: Outcome) -> bool {
+// Writes what ends one of the five numbers, and the next with its name.
+fn say_next(output: i32, between: &[u8], text: &[u8], number: u64) -> bool {
+    io::write_all(output, between) && say(output, text, number)
+}
+
+// Writes the confirming program's five lines, with something else in place of the ends of lines.
+fn print_numbers(output: i32, outcome: Outcome, between: &[u8]) -> bool {
     let mut is_written = say(output, b"SYSTEM ", outcome.system as u64);
-    is_written = is_written & say(output, b"\nSTART ", outcome.start as u64);
-    is_written = is_written & say(output, b"\nLINES ", outcome.lines as u64);
-    is_written = is_written & say(output, b"\nREPAIRS ", outcome.repairs as u64);
-    is_written = is_written & say(output, b"\nRESULT ", outcome.number as u64);
+    is_written = is_written & say_next(output, between, b"START ", outcome.start as u64);
+    is_written = is_written & say_next(output, between, b"LINES ", outcome.lines as u64);
+    is_written = is_written & say_next(output, between, b"REPAIRS ", outcome.repairs as u64);
+    is_written = is_written & say_next(output, between, b"RESULT ", outcome.number as u64);
     is_written = is_written & say(output, b" ", outcome.line as u64);
     is_written = is_written & say(output, b" ", outcome.place as u64);
+    is_written & io::write_all(output, between)
+}
+
+// Writes the confirming program's five lines. True where all of them were written.
+pub fn print_outcome(output: i32, outcome: Outcome) -> bool {
+    print_numbers(output, outcome, b"\n")
+}
+
+// Writes the same on one line, and the recording's name.
+pub fn print_row(output: i32, outcome: Outcome, name: &[u8]) -> bool {
+    let is_written = print_numbers(output, outcome, b" ");
+    is_written & say_name(output, name) & io::write_all(output, b"\n")
+}
+
+// Writes the line of a recording that could not be read.
+pub fn print_unread(output: i32, name: &[u8]) -> bool {
+    let is_written = io::write_all(output, b"UNREAD ");
+    is_written & say_name(output, name) & io::write_all(output, b"\n")
+}
+
+// The last digit of a number.
+fn digit(number: u64) -> u8 {
+    b'0' + (number % 10) as u8
+}
+
+// Writes ten-thousandths as a number with four digits behind the point.
+fn say_ten_thousandths(output: i32, text: &[u8], number: u64) -> bool {
+    let is_written = say(output, text, number / 10_000);
+    let digits = [
+        b'.',
+        digit(number / 1_000),
+        digit(number / 100),
+        digit(number / 10),
+        digit(number),
+    ];
+    is_written & io::write_all(output, &digits)
+}
+
+// Writes the sums over several recordings, on one line.
+pub fn print_totals(output: i32, totals: Totals) -> bool {
+    let mut is_written = say(output, b"FILES ", totals.files);
+    is_written = is_written & say(output, b" LINES ", totals.lines());
+    is_written = is_written & say_ten_thousandths(output, b" HOURS ", totals.hours());
+    is_written = is_written & say(output, b" REPAIRS ", totals.repairs);
+    is_written = is_written & say(output, b" REFUSED ", totals.refused);
+    is_written = is_written & say(output, b" UNREAD ", totals.unread);
     is_written & io::write_all(output, b"\n")
 }
 
@@ -83,14 +215,53 @@ pub fn end_show() {
     io::write_all(STDERR_FILENO, b"\r\x1b[K");
 }
 
-// Says that the program's input could not be read, and why.
-pub fn say_unread(name: &[u8]) {
-    io::write_all(STDERR_FILENO, name);
-    os::fail(b": the input could not be read");
+// Begins a message: whose it is, and of which recording. With no name it is standard input's.
+pub fn say_of(verb: &[u8], name: &[u8]) {
+    io::write_all(STDERR_FILENO, verb);
+    io::write_all(STDERR_FILENO, b": ");
+    say_name(STDERR_FILENO, name);
 }
 
-// Says that the program's output could not be written, and why.
-pub fn say_unwritten(name: &[u8]) {
-    io::write_all(STDERR_FILENO, name);
-    os::fail(b": the output could not be written");
+// Says that a recording, or standard input, could not be read, and why.
+pub fn say_unread(verb: &[u8], name: &[u8]) {
+    say_of(verb, name);
+    if name.len() == 0 {
+        io::write_all(STDERR_FILENO, b"the input");
+    }
+    os::fail(b" could not be read");
+}
+
+// Says that a recording could not be opened, and why.
+pub fn say_unopened(verb: &[u8], name: &[u8]) {
+    say_of(verb, name);
+    os::fail(b" could not be read");
+}
+
+// Says that the output could not be written, and why.
+pub fn say_unwritten(verb: &[u8]) {
+    say_of(verb, b"");
+    os::fail(b"the output could not be written");
+}
+
+// On a terminal, says what is waited for.
+pub fn say_waits(verb: &[u8], what: &[u8]) {
+    if libc::isatty(STDIN_FILENO) == 1 {
+        say_of(verb, b"");
+        io::write_all(STDERR_FILENO, b"waits for ");
+        io::write_all(STDERR_FILENO, what);
+        io::write_all(STDERR_FILENO, b" on standard input\n");
+    }
+}
+
+// Whether standard output is a terminal, which is then said: no rows, lines or words are written there.
+pub fn is_terminal_refused(verb: &[u8]) -> bool {
+    if libc::isatty(STDOUT_FILENO) != 1 {
+        return false;
+    }
+    say_of(verb, b"");
+    io::write_all(
+        STDERR_FILENO,
+        b"standard output is a terminal: send it to a file or a pipe\n",
+    );
+    true
 }

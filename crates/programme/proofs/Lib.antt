@@ -1,3 +1,4 @@
+pub mod Pieces
 pub mod Records
 pub mod RecordTheorems
 pub mod Extracts

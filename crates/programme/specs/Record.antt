@@ -1,5 +1,5 @@
 -- A programme's rows into the lines of a recording: the whole answer of recording one line, and the bytes afterwards.
-use Prim.Native.Nat.{ℕ, _*_}
+use Prim.Native.Nat.{ℕ, _+_, _*_}
 use mathlib.Core.List.{List, [], _∷_}
 use mathlib.Core.Bool.{Bool, cond, not, _&&_}
 use lib.ListN.{length}
@@ -7,9 +7,10 @@ use lib.Dec.{ltb, eqb}
 use Rattle.refusal.specs.declared.Refusal.{Refusal}
 use Rattle.refusal.specs.Answer.{none, refuse, orElse, firstOf}
 use Rattle.timing.specs.Report.{cleanReport}
+use Rattle.system.specs.declared.System.{System}
 use Rattle.system.specs.declared.Walk.{Walk}
-use Rattle.system.specs.Figures.{lineLength, systemOf, vOf}
-use Rattle.system.specs.Walk.{walkRefusal}
+use Rattle.system.specs.Figures.{lineLength, lineCount, systemOf, vOf}
+use Rattle.system.specs.Walk.{mostLines, walkRefusal}
 use Rattle.line.specs.declared.Due.{Due}
 use Rattle.line.specs.Due.{dueOf}
 use Rattle.line.specs.Samples.{Samples, ysFrom, cbsFrom, crsFrom, lineOf}
@@ -30,6 +31,21 @@ takesRow w = not (vOf (systemOf (w .system)) (w .line))
 -- "after the last row those up to the end of its frame": whether the awaited line, of V = 1, still belongs to a frame that has begun
 unfoldable pub endsFrame : Walk → Bool
 endsFrame w = ltb 0 (w .lines) && ltb 1 (w .line) && not (takesRow w)
+
+-- the lines of so many frames
+abbrev pub framesLines : System → ℕ → ℕ
+framesLines s frames = lineCount s * frames
+
+-- the most lines of a recording that is to have so many frames at most: "never over the limit"
+unfoldable pub pieceLines : ℕ → ℕ → ℕ
+pieceLines number frames =
+    cond (ltb (framesLines (systemOf number) frames) mostLines) (framesLines (systemOf number) frames) mostLines
+
+-- "cut between frames, never over the limit": whether a recording of at most so many lines ends before the awaited line, since that begins
+-- a frame for which it has no room
+unfoldable pub endsPiece : Walk → ℕ → Bool
+endsPiece w most =
+    eqb (w .line) 1 && (ltb 0 (w .lines) && ltb most (w .lines + lineCount (systemOf (w .system))))
 
 -- an active part's samples as the writer takes them
 abbrev pub partSamples : List ℕ → Samples

@@ -5,8 +5,11 @@ mod recorder;
 pub use extractor::extract;
 pub use recorder::record;
 ghost use mathlib.Core.Path.{_≡_};
-ghost use Rattle.programme.specs.Record.{dueAtWalk, takesRow, endsFrame};
+ghost use Rattle.programme.specs.Record.{dueAtWalk, takesRow, endsFrame, endsPiece, framesLines, pieceLines};
 use line::Due;
+use system::System;
+use system::System525;
+use system::System625;
 use system::Walk;
 
 // What is due in the line that a walk awaits.
@@ -35,4 +38,41 @@ pub fn ends_frame(walk: Walk) -> bool
         return false;
     }
     !takes_row(walk)
+}
+
+// The lines of so many frames.
+fn frames_lines(system: System, frames: u32) -> u64
+    ensures { λ r. ⌜ r ≡ framesLines system frames ⌝ }
+{
+    match system {
+        System::Lines525 => System525::LINE_COUNT as u64 * frames as u64,
+        System::Lines625 => System625::LINE_COUNT as u64 * frames as u64,
+    }
+}
+
+// The most lines of a recording that is to have so many frames at most: no more than any recording may have.
+pub fn piece_lines(system: u32, frames: u32) -> u32
+    ensures { λ r. ⌜ r ≡ pieceLines system frames ⌝ }
+{
+    let lines = frames_lines(system::system_of(system), frames);
+    if lines < Walk::MOST_LINES as u64 {
+        return lines as u32;
+    }
+    Walk::MOST_LINES
+}
+
+// Whether a recording of at most so many lines ends before the line that a walk awaits: that is line 1, and the frame has no room.
+pub fn ends_piece(walk: Walk, most: u32) -> bool
+    ensures { λ r. ⌜ r ≡ endsPiece walk most ⌝ }
+{
+    if walk.line != 1 {
+        return false;
+    }
+    if walk.lines == 0 {
+        return false;
+    }
+    if most < walk.lines {
+        return true;
+    }
+    most - walk.lines < system::system_of(walk.system).line_count()
 }

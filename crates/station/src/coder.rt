@@ -2,8 +2,9 @@
 ghost use mathlib.Core.Path.{_≡_};
 ghost use Prim.Native.Nat.{_/_, _≤_};
 ghost use lib.ListN.{length};
-use crate::status::Status;
+use console::Status;
 use libc::STDERR_FILENO;
+use libc::STDIN_FILENO;
 use libc::STDOUT_FILENO;
 use serial::Answer;
 use serial::State;
@@ -54,9 +55,9 @@ fn refused(state: State, words: u64, number: u64) -> Stream {
     }
 }
 
-fn say_refused(name: &[u8], number: u64, word: u64) {
-    io::write_all(STDERR_FILENO, name);
-    console::say(STDERR_FILENO, b": refused ", number);
+fn say_refused(verb: &[u8], number: u64, word: u64) {
+    console::say_of(verb, b"");
+    console::say(STDERR_FILENO, b"refused ", number);
     console::say(STDERR_FILENO, b", word ", word);
     if number == 3 {
         io::write_all(STDERR_FILENO, b": half a word is left\n");
@@ -166,7 +167,7 @@ fn take_piece(
 ) -> Stream
     requires { ⌜ (length (now words) ≡ length (now bytes) / 2) × (length (now out) ≡ length (now words)) ⌝ }
 {
-    let filled = console::fill(bytes);
+    let filled = console::fill(STDIN_FILENO, bytes);
     if filled.is_failed {
         return ended(stream.state, stream.words, Status::Unread);
     }
@@ -209,21 +210,22 @@ fn take_pieces(is_coding: bool, bytes: &mut [u8], words: &mut [u16], out: &mut [
 }
 
 // Says why a stream ended before its input did.
-fn tell(name: &[u8], stream: Stream) -> Status {
+fn tell(verb: &[u8], stream: Stream) -> u32 {
     let status = stream.status;
     if stream.number != 0 {
-        say_refused(name, stream.number, stream.words);
+        say_refused(verb, stream.number, stream.words);
     }
-    status.say_failure(name);
-    status
+    status.say_failure(verb, b"");
+    status.code()
 }
 
-pub(crate) fn code_input(name: &[u8], is_coding: bool) -> Status {
+// Codes or decodes standard input to standard output, and answers the exit status.
+pub fn code_input(verb: &[u8], is_coding: bool) -> u32 {
     let mut bytes = [0u8; 2 * PIECE];
     let mut words = [0u16; PIECE];
     let mut out = [0u16; PIECE];
     tell(
-        name,
+        verb,
         take_pieces(is_coding, &mut bytes, &mut words, &mut out),
     )
 }

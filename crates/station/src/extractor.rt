@@ -1,7 +1,7 @@
 // `extract`: a recording in, the v210 rows of its V = 0 lines out.
-use crate::status::Status;
 use confirmation::Run;
-use libc::STDERR_FILENO;
+use console::Read;
+use console::Status;
 use libc::STDOUT_FILENO;
 use system::System625;
 
@@ -53,8 +53,8 @@ fn put_row(run: Run, bytes: &[u8], row: &mut [u8]) -> Tape {
 }
 
 // Takes one line of the input.
-fn take_line(run: Run, line: &mut [u8], row: &mut [u8]) -> Tape {
-    let filled = console::fill(line);
+fn take_line(input: i32, run: Run, line: &mut [u8], row: &mut [u8]) -> Tape {
+    let filled = console::fill(input, line);
     if filled.is_failed {
         return ended(run, Status::Unread);
     }
@@ -66,12 +66,12 @@ fn take_line(run: Run, line: &mut [u8], row: &mut [u8]) -> Tape {
 }
 
 // Takes lines to the end of the input or the first refusal. The turns count down from a number that no input uses up.
-fn take_lines(run: Run, line: &mut [u8], row: &mut [u8]) -> Tape {
+fn take_lines(input: i32, run: Run, line: &mut [u8], row: &mut [u8]) -> Tape {
     let is_shown = console::is_shown();
     let mut tape = open(run);
     let mut turns = u64::MAX;
     while turns > 0 && tape.is_open {
-        tape = take_line(tape.run, line, row);
+        tape = take_line(input, tape.run, line, row);
         turns -= 1;
         if is_shown && turns % LINES_A_REPORT == 0 {
             let now = tape.run;
@@ -84,33 +84,16 @@ fn take_lines(run: Run, line: &mut [u8], row: &mut [u8]) -> Tape {
     tape
 }
 
-// Says the five lines of a run that a refusal or the end of the input ended, or what the system failed in.
-fn tell(tape: Tape) -> Status {
-    let run = tape.run;
-    let status = tape.status;
-    match status {
-        Status::Unread => status.say_failure(b"extract"),
-        Status::Unwritten => status.say_failure(b"extract"),
-        _ => {
-            console::print_outcome(STDERR_FILENO, run.outcome());
-        }
-    }
-    status
-}
-
-pub(crate) fn extract_input() -> Status {
-    let mut header = [0u8; 4];
-    let filled = console::fill(&mut header);
-    let have = filled.have;
-    let run = Run::begin(&header[0..have]);
-    if filled.is_failed {
-        return tell(ended(run, Status::Unread));
-    }
+// Writes the rows of a recording whose header was read, to standard output, up to its end or its first refusal.
+pub fn extract(input: i32, run: Run) -> Read {
     if run.number != 0 {
-        return tell(ended(run, Status::Refused));
+        return Read::ended(run);
     }
     let size = confirmation::line_bytes(run.walk);
     let mut line = [0u8; 2 * System625::LINE_LENGTH];
     let mut row = [0u8; v210::ROW_LENGTH];
-    tell(take_lines(run, &mut line[0..size], &mut row))
+    let tape = take_lines(input, run, &mut line[0..size], &mut row);
+    let after = tape.run;
+    let status = tape.status;
+    Read { run: after, status }
 }

@@ -7,10 +7,10 @@ use Rattle.confirm.proofs.follow.Statement.{statement}
 use Rattle.confirm.proofs.follow.Tie as tie
 
 abbrev Inv-loop : tie.InvT-loop
-Inv-loop buffer₀ is-shown input₀ turns₀ buffer input turns = (input .at ≤ input .have) × (input .have ≤ length buffer) × (length buffer ≡ length buffer₀)
+Inv-loop input buffer₀ is-shown ready₀ turns₀ buffer ready turns = (ready .at ≤ ready .have) × (ready .have ≤ length buffer) × (length buffer ≡ length buffer₀)
 
 abbrev μ-loop : tie.MeasureT-loop
-μ-loop buffer₀ is-shown input₀ turns₀ buffer input turns = turns
+μ-loop input buffer₀ is-shown ready₀ turns₀ buffer ready turns = turns
 
 loop-holds : tie.Need-loop-holds Inv-loop μ-loop
 loop-holds c = search needs

@@ -7,10 +7,10 @@ use Rattle.console.proofs.fill.Statement.{statement}
 use Rattle.console.proofs.fill.Tie as tie
 
 abbrev Inv-loop : tie.InvT-loop
-Inv-loop buffer₀ have₀ buffer have = (have ≤ length buffer) × (length buffer ≡ length buffer₀)
+Inv-loop input buffer₀ have₀ buffer have = (have ≤ length buffer) × (length buffer ≡ length buffer₀)
 
 abbrev μ-loop : tie.MeasureT-loop
-μ-loop buffer₀ have₀ buffer have = length buffer - have
+μ-loop input buffer₀ have₀ buffer have = length buffer - have
 
 loop-holds : tie.Need-loop-holds Inv-loop μ-loop
 loop-holds c = search needs

@@ -6,10 +6,10 @@ use Rattle.station.proofs.recorder.end_frame.Statement.{statement}
 use Rattle.station.proofs.recorder.end_frame.Tie as tie
 
 abbrev Inv-loop : tie.InvT-loop
-Inv-loop line₀ tape₀ lines₀ t7 line tape lines = length line ≡ length line₀
+Inv-loop output line₀ tape₀ lines₀ t8 line tape lines = length line ≡ length line₀
 
 abbrev μ-loop : tie.MeasureT-loop
-μ-loop line₀ tape₀ lines₀ t7 line tape lines = lines
+μ-loop output line₀ tape₀ lines₀ t8 line tape lines = lines
 
 open-requires : tie.Need-open-requires Inv-loop μ-loop
 open-requires c κs = search needs

@@ -6,10 +6,10 @@ use Rattle.station.proofs.recorder.put_row.Statement.{statement}
 use Rattle.station.proofs.recorder.put_row.Tie as tie
 
 abbrev Inv-loop : tie.InvT-loop
-Inv-loop row line₀ tape₀ is-taken₀ lines₀ line tape is-taken lines = length line ≡ length line₀
+Inv-loop row line₀ folder most tape₀ is-taken₀ lines₀ line tape is-taken lines = length line ≡ length line₀
 
 abbrev μ-loop : tie.MeasureT-loop
-μ-loop row line₀ tape₀ is-taken₀ lines₀ line tape is-taken lines = lines
+μ-loop row line₀ folder most tape₀ is-taken₀ lines₀ line tape is-taken lines = lines
 
 open-requires : tie.Need-open-requires Inv-loop μ-loop
 open-requires c κs = search needs
@@ -20,8 +20,8 @@ loop-holds c = search needs
 takes-row-requires : tie.Need-takes-row-requires Inv-loop μ-loop
 takes-row-requires c κs = search needs
 
-put-line-requires : tie.Need-put-line-requires Inv-loop μ-loop
-put-line-requires c κs = search needs
+put-next-requires : tie.Need-put-next-requires Inv-loop μ-loop
+put-next-requires c κs = search needs
 
 sub-lines : tie.Need-sub-lines Inv-loop μ-loop
 sub-lines c = search needs
@@ -59,7 +59,7 @@ put-row-spec =
     open-requires
     loop-holds
     takes-row-requires
-    put-line-requires
+    put-next-requires
     sub-lines
     loop-less
     loop-again

@@ -6,16 +6,13 @@ use Rattle.station.proofs.recorder.take_rows.Statement.{statement}
 use Rattle.station.proofs.recorder.take_rows.Tie as tie
 
 abbrev Inv-loop : tie.InvT-loop
-Inv-loop row₀ line₀ is-shown tape₀ turns₀ row line tape turns = (length row ≡ length row₀) × (length line ≡ length line₀)
+Inv-loop row₀ line₀ folder most is-shown tape₀ turns₀ row line tape turns = (length row ≡ length row₀) × (length line ≡ length line₀)
 
 abbrev μ-loop : tie.MeasureT-loop
-μ-loop row₀ line₀ is-shown tape₀ turns₀ row line tape turns = turns
+μ-loop row₀ line₀ folder most is-shown tape₀ turns₀ row line tape turns = turns
 
 is-shown-requires : tie.Need-is-shown-requires Inv-loop μ-loop
 is-shown-requires c κs = search needs
-
-open-requires : tie.Need-open-requires Inv-loop μ-loop
-open-requires c κs = search needs
 
 loop-holds : tie.Need-loop-holds Inv-loop μ-loop
 loop-holds c = search needs
@@ -69,7 +66,6 @@ take-rows-spec =
     Inv-loop
     μ-loop
     is-shown-requires
-    open-requires
     loop-holds
     take-row-requires
     sub-turns

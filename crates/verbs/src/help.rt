@@ -1,0 +1,124 @@
+// What is said of the command's use: a verb's right form, and its help. No verb stands for the command itself.
+use crate::arguments::same;
+use libc::STDOUT_FILENO;
+
+pub(crate) enum Verb {
+    Confirm,
+    Record,
+    Extract,
+    Scramble,
+    Descramble,
+    Help,
+    None,
+}
+
+// The verb of this name, or none.
+pub(crate) fn named(name: &[u8]) -> Verb {
+    if same(name, b"confirm") {
+        return Verb::Confirm;
+    }
+    if same(name, b"record") {
+        return Verb::Record;
+    }
+    if same(name, b"extract") {
+        return Verb::Extract;
+    }
+    if same(name, b"scramble") {
+        return Verb::Scramble;
+    }
+    if same(name, b"descramble") {
+        return Verb::Descramble;
+    }
+    if same(name, b"help") {
+        return Verb::Help;
+    }
+    Verb::None
+}
+
+pub(crate) fn is_verb(name: &[u8]) -> bool {
+    match named(name) {
+        Verb::None => false,
+        _ => true,
+    }
+}
+
+fn form(output: i32, text: &[u8]) -> bool {
+    io::write_all(output, b"usage: fiskrogn ") & io::write_all(output, text)
+}
+
+// Writes a verb's right form. True where all of it was written.
+pub(crate) fn print_usage(output: i32, verb: &[u8]) -> bool {
+    match named(verb) {
+        Verb::Confirm => form(output, b"confirm [FILE | FOLDER]..\n"),
+        Verb::Record => form(
+            output,
+            b"record [--into FOLDER [--frames N]] SYSTEM START\n",
+        ),
+        Verb::Extract => form(output, b"extract [FILE | FOLDER]\n"),
+        Verb::Scramble => form(output, b"scramble\n"),
+        Verb::Descramble => form(output, b"descramble\n"),
+        Verb::Help => form(output, b"help [VERB]\n"),
+        Verb::None => form(
+            output,
+            b"confirm | record | extract | scramble | descramble | help ..\n",
+        ),
+    }
+}
+
+fn line(text: &[u8]) -> bool {
+    io::write_all(STDOUT_FILENO, text) & io::write_all(STDOUT_FILENO, b"\n")
+}
+
+fn print_general() -> bool {
+    line(b"  confirm      whether recordings read as programmes that were written")
+        & line(b"  record       v210 rows into a recording, or into a row of them in a folder")
+        & line(b"  extract      the v210 rows of a recording")
+        & line(b"  scramble     words as they go over the serial channel")
+        & line(b"  descramble   the words that scramble was given")
+        & line(b"  help [VERB]  this text, or a verb's")
+        & line(b"Status: 0 where all was taken and written, 1 where something was refused,")
+        & line(b"2 where the system failed or the use is wrong. More: man fiskrogn")
+}
+
+fn print_confirm() -> bool {
+    line(b"One recording (with no name that on standard input) gives five lines, of which")
+        & line(b"RESULT 0 0 0 is accepted and another RESULT is number, line and place of the")
+        & line(b"refusal. Several give a line each, and totals. A folder is one programme, in")
+        & line(b"recordings 0001.rec and on. A recording cut between two lines is accepted:")
+        & line(b"compare LINES with what was recorded.")
+}
+
+fn print_record() -> bool {
+    line(b"Takes v210 rows of 720 pixels from standard input, those of the V = 0 lines in")
+        & line(b"line order: 487 a frame of 525, 576 of 625. A recording has at most 10000000")
+        & line(b"lines: 10 minutes 40 seconds of 625, 10 minutes 35 seconds of 525. With --into")
+        & line(b"the next goes on by itself: FOLDER/0001.rec and so on, cut between frames,")
+        & line(b"with --frames after at most N of them.")
+}
+
+fn print_extract() -> bool {
+    line(b"Writes the v210 rows of the V = 0 lines to standard output, up to the first")
+        & line(b"refusal, and says what confirm says on standard error. With no name it reads")
+        & line(b"standard input. A folder is one programme, in recordings 0001.rec and on.")
+}
+
+fn print_coder() -> bool {
+    line(b"Reads words of 16 bits, low byte first, from standard input, and writes such")
+        & line(b"words to standard output. A word over 1023 is refused.")
+}
+
+fn print_text(verb: &[u8]) -> bool {
+    match named(verb) {
+        Verb::Confirm => print_confirm(),
+        Verb::Record => print_record(),
+        Verb::Extract => print_extract(),
+        Verb::Scramble => print_coder(),
+        Verb::Descramble => print_coder(),
+        _ => print_general(),
+    }
+}
+
+// Writes a verb's help. True where all of it was written.
+pub(crate) fn print(verb: &[u8]) -> bool {
+    print_usage(STDOUT_FILENO, verb) & print_text(verb)
+}

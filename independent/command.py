@@ -1,0 +1,543 @@
+"""The command: what it writes, says and leaves behind, for any arguments, input and files.
+
+Arguments and names are text whose bytes that are no UTF-8 are kept as Python
+keeps them. Files are a dictionary: a path has a file's bytes, or FOLDER. Where
+the system's text of an error is due, the word REASON stands.
+"""
+
+import os
+import re
+from fractions import Fraction
+from functools import lru_cache
+from math import floor
+from typing import NamedTuple, Optional
+
+from independent import judge, programme
+from independent.material import line_after
+from independent.programme import LAST_NUMBER, Refused
+
+FOLDER = "folder"
+
+# The text of a help is the command's own; it is only known that there is one.
+ANY_TEXT = None
+
+TAKEN, STOPPED, FAILED = range(3)
+
+USES = {
+    "fiskrogn": "confirm | record | extract | scramble | descramble | help ..",
+    "confirm": "confirm [FILE | FOLDER]..",
+    "record": "record [--into FOLDER [--frames N]] SYSTEM START",
+    "extract": "extract [FILE | FOLDER]",
+    "scramble": "scramble",
+    "descramble": "descramble",
+    "help": "help [VERB]",
+}
+VERSION = b"fiskrogn 0.1.0\n"
+HELP_OPTIONS = ("--help", "-h")
+
+AWAITED = {
+    "confirm": "a recording",
+    "record": "v210 rows",
+    "extract": "a recording",
+    "scramble": "words",
+    "descramble": "channel words",
+}
+
+HEADER_TEXTS = {
+    judge.NO_SYSTEM: "the system is neither 525 nor 625",
+    judge.NO_LINE: "the start line is not one of the system",
+}
+READ_TEXTS = {
+    **HEADER_TEXTS,
+    judge.WRONG_LENGTH: "the recording ends inside a line",
+    judge.WRONG_COUNTS: "it goes on after 10000000 lines",
+    judge.OVER_A_WORD: "a word is over 1023",
+    judge.NO_PREAMBLE: "one of the first three words of a timing code is wrong",
+    judge.NO_BIT_9: "bit 9 of a fourth word is 0",
+    judge.NO_PATTERN: "a timing code has no legal code within one inverted bit",
+    judge.NOT_DUE: "a timing code is not the one due here",
+    judge.NO_FILL: "fill is due and is not there",
+    judge.RESERVED: "a reserved word stands where a sample is due",
+}
+RECORD_TEXTS = {
+    **HEADER_TEXTS,
+    judge.WRONG_LENGTH: "the last row is short",
+    judge.WRONG_COUNTS: "10000000 lines are written, and --into FOLDER would go on in a next file",
+    judge.OVER_A_WORD: "spare bits are set in a word of the row",
+    judge.NOT_A_SAMPLE: "a sample is outside 4 to 1019",
+}
+SERIAL_TEXTS = {
+    judge.OVER_A_WORD: "it is over 1023",
+    judge.WRONG_LENGTH: "half a word is left",
+}
+FRAME_ROWS_TEXT = "a frame of 525 has 487 rows, one of 625 has 576"
+
+RECORDINGS = {f"{number:04}.rec": number for number in range(1, LAST_NUMBER + 1)}
+
+NOT_READ = "could not be read: REASON"
+NOT_MADE = "could not be made: REASON"
+MISSING = "is missing"
+NO_NUMBERS = "holds no numbered recordings (0001.rec and so on)"
+HELD = "holds recordings already: name another folder"
+NO_MORE_NUMBERS = f"holds {LAST_NUMBER} recordings, and no more can be numbered"
+
+# 25 pictures a second of 625 lines, 30000/1001 of 525.
+LINE_SECONDS = {625: Fraction(1, 25 * 625), 525: Fraction(1001, 30_000 * 525)}
+
+
+class Answer(NamedTuple):
+    """What is written on standard output and standard error, the status, the files left."""
+
+    output: Optional[bytes]
+    errors: bytes
+    status: int
+    files: dict = {}
+
+
+class WrongUse(Exception):
+    """Arguments that a verb does not take, and what is wrong with them."""
+
+
+class HelpAsked(Exception):
+    """An option that asks for help in place of all else."""
+
+
+def shown(name):
+    """A name on one line: odd bytes are written as numbers."""
+    return re.sub(r"[\x00-\x1f\x7f\\]", lambda odd: f"\\x{ord(odd[0]):02x}", name)
+
+
+def number_of(text):
+    if not re.fullmatch("[0-9]{1,9}", text):
+        raise WrongUse(f"{shown(text)} is no number of one to nine digits")
+    return int(text)
+
+
+# The options that take a value, and how many other arguments a verb takes at least and at most.
+OPTIONS = {"record": {"--into": str, "--frames": number_of}}
+PLACES = {
+    "confirm": (0, None),
+    "record": (2, 2),
+    "extract": (0, 1),
+    "scramble": (0, 0),
+    "descramble": (0, 0),
+    "help": (0, 1),
+}
+
+
+def is_option(word):
+    return word.startswith("-") and word != "-"
+
+
+def parted(verb, words):
+    """The values of the options, and the other arguments."""
+    known, values, words = OPTIONS.get(verb, {}), {}, list(words)
+    while words and is_option(words[0]):
+        option = words.pop(0)
+        if option == "--":
+            break
+        if option in HELP_OPTIONS:
+            raise HelpAsked
+        if option not in known:
+            raise WrongUse(f"there is no option {shown(option)}")
+        if not words:
+            raise WrongUse("an argument is missing")
+        values[option] = known[option](words.pop(0))
+    return values, words
+
+
+def check_frames(values):
+    if "--frames" in values and "--into" not in values:
+        raise WrongUse("--frames goes with --into")
+    if values.get("--frames") == 0:
+        raise WrongUse("--frames takes 1 or more")
+
+
+def check_places(verb, words):
+    least, most = PLACES[verb]
+    if len(words) < least:
+        raise WrongUse("an argument is missing")
+    if most is not None and len(words) > most:
+        raise WrongUse(f"there is no place for the argument {shown(words[most])}")
+
+
+def wrong_use(verb, what, files):
+    said = f"{verb}: {what}\nusage: fiskrogn {USES[verb]}\n"
+    return Answer(b"", os.fsencode(said), FAILED, files)
+
+
+def refused(refusal, texts):
+    number, line, place = refusal
+    return f"refused {number}, line {line}, place {place}: {texts[number]}"
+
+
+def waiting(verb):
+    """What is said first where standard input is a terminal and is read."""
+    return f"{verb}: waits for {AWAITED[verb]} on standard input\n".encode()
+
+
+class Run(NamedTuple):
+    """The numbers of a recording's five lines."""
+
+    system: int
+    start: int
+    lines: int
+    repairs: int
+    number: int
+    line: int
+    place: int
+
+    @property
+    def refusal(self):
+        return self[4:]
+
+    @property
+    def awaited(self):
+        """The line after the last one, and the system."""
+        return line_after(self.system, self.start, self.lines), self.system
+
+
+def run_of(five_lines):
+    return Run(*map(int, re.findall(rb"\d+", five_lines)))
+
+
+class Piece(NamedTuple):
+    """A file to be read: its name, its bytes and its run, or why there are none."""
+
+    name: str
+    data: Optional[bytes]
+    run: Optional[Run]
+    want: Optional[str] = None
+
+    @property
+    def accepted(self):
+        return self.run is not None and self.run.number == 0
+
+
+def unread(name, want):
+    return Piece(name, None, None, want)
+
+
+@lru_cache(maxsize=64)
+def run_in(data):
+    """A file's run; one that is named often is read once."""
+    return run_of(judge.confirm(data))
+
+
+NOTHING = unread("", None)
+
+
+def found(files, name):
+    """A file's bytes, FOLDER, or None where the name stands for nothing."""
+    path = os.path.normpath(name) if name else name
+    thing = FOLDER if path == os.curdir else files.get(path)
+    return None if name.endswith("/") and thing != FOLDER else thing
+
+
+def piece_name(folder, number):
+    slash = "" if folder.endswith("/") else "/"
+    return f"{folder}{slash}{number:04}.rec"
+
+
+def is_in(path, folder):
+    return (os.path.dirname(path) or os.curdir) == os.path.normpath(folder)
+
+
+def numbers_in(files, folder):
+    """The numbers of the recordings that a folder holds."""
+    names = {os.path.basename(path) for path in files if is_in(path, folder)}
+    return {RECORDINGS[name] for name in names & RECORDINGS.keys()}
+
+
+def piece_at(files, name, absent):
+    """A file by its name; absent is what is said where there is none."""
+    data = found(files, name)
+    if data is None:
+        return unread(name, absent)
+    if data == FOLDER:
+        return unread(name, NOT_READ)
+    return Piece(name, data, run_in(data))
+
+
+def row_at(files, name):
+    """The files that an argument stands for: itself, or the numbered ones of a folder."""
+    if found(files, name) != FOLDER:
+        return [piece_at(files, name, NOT_READ)]
+    last = max(numbers_in(files, name), default=0)
+    if not last:
+        return [unread(name, NO_NUMBERS)]
+    names = [piece_name(name, number) for number in range(1, last + 1)]
+    return [piece_at(files, each, MISSING) for each in names]
+
+
+def gap_between(before, piece):
+    """How a piece does not follow on an accepted one; None where it does or is not judged."""
+    if not before.accepted or piece.run is None or piece.run.number in HEADER_TEXTS:
+        return None
+    line, system = before.run.awaited
+    if (piece.run.start, piece.run.system) == (line, system):
+        return None
+    return (
+        f"{shown(piece.name)} does not follow on {shown(before.name)}: it starts with line "
+        f"{piece.run.start} of {piece.run.system}, and line {line} of {system} is awaited"
+    )
+
+
+def row_of(piece):
+    """The line of one file among several."""
+    if piece.run is None:
+        return f"UNREAD {shown(piece.name)}\n"
+    result = " ".join(map(str, piece.run.refusal))
+    return (
+        f"SYSTEM {piece.run.system} START {piece.run.start} LINES {piece.run.lines} "
+        f"REPAIRS {piece.run.repairs} RESULT {result} {shown(piece.name)}\n"
+    )
+
+
+def hours(runs):
+    """The programme's time, to the nearest ten-thousandth of an hour."""
+    seconds = sum(run.lines * LINE_SECONDS.get(run.system, 0) for run in runs)
+    parts = floor(seconds * Fraction(10_000, 3_600) + Fraction(1, 2))
+    return f"{parts // 10_000}.{parts % 10_000:04}"
+
+
+def totals(pieces):
+    runs = [piece.run for piece in pieces if piece.run]
+    lines, repairs = sum(run.lines for run in runs), sum(run.repairs for run in runs)
+    stopped = sum(run.number != 0 for run in runs)
+    return (
+        f"FILES {len(pieces)} LINES {lines} HOURS {hours(runs)} REPAIRS {repairs} "
+        f"REFUSED {stopped} UNREAD {len(pieces) - len(runs)}\n"
+    )
+
+
+class Report:
+    """What a verb writes and says, and how it ends, while it works."""
+
+    def __init__(self, verb, files):
+        self.verb, self.files = verb, files
+        self.output, self.errors, self.status = b"", b"", TAKEN
+
+    def say(self, status, text):
+        self.errors += os.fsencode(f"{self.verb}: {text}\n")
+        self.status = max(self.status, status)
+
+    def answer(self):
+        return Answer(self.output, self.errors, self.status, self.files)
+
+
+class Confirming(Report):
+    """Confirming standard input, a file, or files and folders in turn."""
+
+    # Whether what follows a piece that is not as due is read all the same.
+    goes_on = True
+
+    def write_text(self, text):
+        self.output += os.fsencode(text)
+
+    def write_picture(self, data):
+        """Nothing: a confirmed recording's rows are not asked for."""
+
+    def say_refused(self, run, of):
+        if run.number:
+            self.say(STOPPED, of + refused(run.refusal, READ_TEXTS))
+
+    def tell(self, five_lines, of=""):
+        self.write_text(five_lines.decode())
+        self.say_refused(run_of(five_lines), of)
+
+    def read(self, data, of=""):
+        """Standard input, or one file."""
+        self.write_picture(data)
+        self.tell(judge.confirm(data), of)
+
+    def say_unread(self, piece):
+        self.say(FAILED, f"{shown(piece.name)} {piece.want}")
+
+    def read_file(self, name):
+        piece = piece_at(self.files, name, NOT_READ)
+        if piece.run:
+            self.read(piece.data, f"{shown(name)}: ")
+        else:
+            self.say_unread(piece)
+
+    def read_piece(self, piece):
+        """A row, behind it its refusal, before it why it is not read."""
+        if piece.run:
+            self.write_picture(piece.data)
+            self.write_text(row_of(piece))
+            self.say_refused(piece.run, f"{shown(piece.name)}: ")
+        else:
+            self.say_unread(piece)
+            self.write_text(row_of(piece))
+
+    def read_row(self, pieces):
+        """Read the pieces of one argument; those that got a row."""
+        told = []
+        for before, piece in zip([NOTHING, *pieces], pieces):
+            gap = gap_between(before, piece)
+            if gap:
+                self.say(STOPPED, gap)
+            if self.goes_on or not gap:
+                self.read_piece(piece)
+                told.append(piece)
+            if not self.goes_on and (gap or not piece.accepted):
+                break
+        return told
+
+    def read_names(self, names):
+        told = [piece for name in names for piece in self.read_row(row_at(self.files, name))]
+        self.write_text(totals(told))
+
+
+class Extracting(Confirming):
+    """The same with pictures on standard output, and the text on standard error."""
+
+    goes_on = False
+
+    def write_text(self, text):
+        self.errors += os.fsencode(text)
+
+    def write_picture(self, data):
+        self.output += programme.extract(data)[0]
+
+
+READERS = {"confirm": Confirming, "extract": Extracting}
+SERIAL_CALLS = {"scramble": programme.scramble, "descramble": programme.descramble}
+
+
+def told_answer(verb, five_lines):
+    """The answer to a recording of these five lines on standard input, but for its pictures."""
+    reader = READERS[verb](verb, {})
+    reader.tell(five_lines)
+    return reader.answer()
+
+
+def read_answer(verb, names, data, files):
+    reader = READERS[verb](verb, files)
+    if not names:
+        reader.read(data)
+    elif len(names) > 1 or found(files, names[0]) == FOLDER:
+        reader.read_names(names)
+    else:
+        reader.read_file(names[0])
+    return reader.answer()
+
+
+def say_how_it_ends(report, pieces, stopped, folder=""):
+    """Why not all rows were taken, or that the last frame is not whole."""
+    if isinstance(stopped, Refused):
+        report.say(STOPPED, refused(stopped.args, RECORD_TEXTS))
+    elif stopped:
+        report.say(FAILED, f"{shown(folder)} {NO_MORE_NUMBERS}")
+    elif programme.line_count(pieces[0]) and programme.awaited_line(pieces[-1]) != 1:
+        line, system = programme.awaited_line(pieces[-1]), judge.header_of(pieces[-1])[0]
+        awaited = f"line {line} of {system} is awaited ({FRAME_ROWS_TEXT})"
+        report.say(TAKEN, f"the last frame is not whole: {awaited}")
+
+
+def can_be_made(files, folder):
+    """Whether nothing has a folder's name and its parent is there."""
+    path = os.path.normpath(folder)
+    parent = os.path.dirname(path) or os.curdir
+    return path not in files and found(files, parent) == FOLDER
+
+
+def why_not_into(files, folder):
+    """What takes no recordings, the folder or its first file, and why; or None."""
+    if found(files, folder) == FOLDER:
+        return f"{shown(folder)} {HELD}" if numbers_in(files, folder) else None
+    if can_be_made(files, folder):
+        return None
+    is_taken = os.path.normpath(folder) in files
+    return f"{shown(piece_name(folder, 1) if is_taken else folder)} {NOT_MADE}"
+
+
+def with_pieces(files, folder, pieces):
+    """The files with a folder and its recordings among them; None leaves a number out."""
+    made = {} if found(files, folder) else {os.path.normpath(folder): FOLDER}
+    for number, piece in enumerate(pieces, 1):
+        if piece is not None:
+            made[os.path.normpath(piece_name(folder, number))] = piece
+    return {**files, **made}
+
+
+def record_into(report, folder, frames, system, start, data):
+    why_not = why_not_into(report.files, folder)
+    if why_not:
+        report.say(FAILED, why_not)
+        return
+    most = programme.most_lines(system, frames)
+    pieces, stopped = programme.record_pieces(system, start, data, most)
+    report.files = with_pieces(report.files, folder, pieces)
+    say_how_it_ends(report, pieces, stopped, folder)
+
+
+def record_answer(values, words, data, files):
+    system, start = map(number_of, words)
+    report = Report("record", files)
+    # A system or line that there is not is told before any folder is looked at.
+    if "--into" in values and not judge.line_number_refusal(system, start):
+        folder, frames = values["--into"], values.get("--frames")
+        record_into(report, folder, frames, system, start, data)
+    else:
+        pieces, stopped = programme.record_pieces(system, start, data)
+        report.output = b"".join(pieces)
+        say_how_it_ends(report, pieces, stopped)
+    return report.answer()
+
+
+def serial_answer(verb, data, files):
+    report = Report(verb, files)
+    report.output, refusal = SERIAL_CALLS[verb](data)
+    if refusal:
+        number, index = refusal
+        report.say(STOPPED, f"refused {number}, word {index}: {SERIAL_TEXTS[number]}")
+    return report.answer()
+
+
+def no_verb(word, files):
+    return wrong_use("fiskrogn", f"there is no verb {shown(word)}", files)
+
+
+def help_answer(files):
+    return Answer(ANY_TEXT, b"", TAKEN, files)
+
+
+def taken_answer(verb, values, words, data, files):
+    """The answer to arguments of which there are as many as a verb takes."""
+    if verb == "record":
+        return record_answer(values, words, data, files)
+    if verb in SERIAL_CALLS:
+        return serial_answer(verb, data, files)
+    if verb in READERS:
+        return read_answer(verb, words, data, files)
+    return help_answer(files)
+
+
+def verb_answer(verb, words, data, files):
+    try:
+        values, words = parted(verb, words)
+        if verb == "help" and words and words[0] not in PLACES:
+            return no_verb(words[0], files)
+        check_frames(values)
+        check_places(verb, words)
+        return taken_answer(verb, values, words, data, files)
+    except HelpAsked:
+        return help_answer(files)
+    except WrongUse as wrong:
+        return wrong_use(verb, *wrong.args, files)
+
+
+def answer(words, data=b"", files={}):
+    """What the command answers to its words, an input and the files that are there."""
+    if not words:
+        return wrong_use("fiskrogn", "a verb is missing", files)
+    verb, *words = words
+    if verb in HELP_OPTIONS:
+        return help_answer(files)
+    if verb == "--version":
+        return Answer(VERSION, b"", TAKEN, files)
+    if verb not in PLACES:
+        return no_verb(verb, files)
+    return verb_answer(verb, words, data, files)
