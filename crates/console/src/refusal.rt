@@ -22,10 +22,11 @@ fn say_words(number: u32) -> bool {
         ),
         9 => io::write_all(STDERR_FILENO, b"a timing code is not the one due here\n"),
         10 => io::write_all(STDERR_FILENO, b"fill is due and is not there\n"),
-        _ => io::write_all(
+        11 => io::write_all(
             STDERR_FILENO,
             b"a reserved word stands where a sample is due\n",
         ),
+        _ => io::write_all(STDERR_FILENO, b"no reading gives this number\n"),
     }
 }
 

@@ -5,10 +5,11 @@ use mathlib.Core.Bool.{true, false, _&&_}
 use native.Mathlib.Omega.{arith}
 use lib.Dec.{ltb, eqb}
 use borrow.Author.Tests.{ltb-true, ltb-false, lt-ltb, le-ltb, eqb-true, eq-eqb, ne-eqb}
-use Rattle.refusal.proofs.Cases.{by-test, and-true}
+use Rattle.refusal.proofs.Cases.{by-cond, by-test, and-true}
 use Rattle.system.specs.declared.Walk.{Walk}
 use Rattle.system.specs.Figures.{lineCount, systemOf}
-use Rattle.programme.specs.Record.{endsPiece}
+use Rattle.system.specs.Walk.{mostLines}
+use Rattle.programme.specs.Record.{endsPiece, framesLines, pieceLines}
 
 -- the lines of a frame of the walk's system
 abbrev frame : Walk → ℕ
@@ -40,6 +41,14 @@ module _ (w : Walk) (most : ℕ) where
   -- Where it goes on with a frame more, that frame has room: no line of it is over the most.
   pub piece-has-room : w .line ≡ 1 → 0 < w .lines → endsPiece w most ≡ false → w .lines + frame w ≤ most
   piece-has-room a b e = ltb-false _ _ (sym (between-frames a b) ∙ e)
+
+-- A recording that is to have so many frames at most is never let over the limit.
+pub piece-within-limit : (number frames : ℕ) → pieceLines number frames ≤ mostLines
+unfolding pieceLines
+piece-within-limit number frames =
+    by-cond (λ (n : ℕ). n ≤ mostLines) (ltb (framesLines (systemOf number) frames) mostLines) _ _
+    (λ t. omega (arith, ltb-true (framesLines (systemOf number) frames) mostLines t))
+    (λ f. omega arith)
 
 -- room that is left, and lines that would be over: the same test
 pub room-left : (most lines more : ℕ) → lines ≤ most → ltb (most - lines) more ≡ ltb most (lines + more)

@@ -311,6 +311,9 @@ pub fn record_input(system: u32, start: u32, folder: &[u8], most: u32) -> u32 {
     } else {
         make_first(folder, walk)
     };
+    if !first.is_open {
+        return tell(first);
+    }
     let size = confirmation::line_bytes(walk);
     let mut row = [0u8; v210::ROW_LENGTH];
     let mut line = [0u8; 2 * System625::LINE_LENGTH];

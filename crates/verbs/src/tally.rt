@@ -24,7 +24,7 @@ fn no_run() -> Run {
     Run::begin(&[])
 }
 
-pub(crate) fn worse(status: u32, other: u32) -> u32 {
+fn worse(status: u32, other: u32) -> u32 {
     if status < other {
         return other;
     }
