@@ -84,6 +84,11 @@ fn read_options() -> Options {
 fn record_into(system: u32, start: u32, index: usize, most: u32) -> u32 {
     let mut folder = io::buffer();
     let length = os::arg(index, &mut folder);
+    if os::errno() != 0 {
+        console::say_of(b"record", b"");
+        os::fail(b"FOLDER could not be made");
+        return 2;
+    }
     if length == 0 {
         return wrong::missing(b"record");
     }

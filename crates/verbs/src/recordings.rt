@@ -211,9 +211,14 @@ fn put_named(task: Task, verb: &[u8], name: &[u8], tally: Tally) -> Tally {
     put_file(task, verb, name, tally)
 }
 
+// The same of an argument. One that is longer than any path names nothing.
 fn put_argument(task: Task, verb: &[u8], index: usize, tally: Tally) -> Tally {
     let mut name = io::buffer();
     let length = os::arg(index, &mut name);
+    if os::errno() != 0 {
+        console::say_unopened(verb, b"");
+        return tally.with_unread(task, verb, b"");
+    }
     put_named(task, verb, &name[..length], tally)
 }
 
@@ -239,6 +244,10 @@ fn put_only(task: Task, verb: &[u8], name: &[u8], index: usize) -> u32 {
 fn put_only_argument(task: Task, verb: &[u8], index: usize) -> u32 {
     let mut name = io::buffer();
     let length = os::arg(index, &mut name);
+    if os::errno() != 0 {
+        console::say_unopened(verb, b"");
+        return 2;
+    }
     put_only(task, verb, &name[..length], index)
 }
 
