@@ -10,3 +10,4 @@ pub mod Rows
 pub mod RecordedLines
 pub mod ExtractedLines
 pub mod Programme
+pub mod Row

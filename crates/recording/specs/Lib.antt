@@ -4,3 +4,4 @@ pub mod Marked
 pub mod Confirmed
 pub mod Promise
 pub mod Programme
+pub mod Row
