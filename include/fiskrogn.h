@@ -1,4 +1,5 @@
-/* Fiskrogn for the capture process: two calls, both proved for every argument. Link with libcapture.a.
+/* Fiskrogn for the capture process: two calls, both proved for every argument. Link with -lfiskrogn (pkg-config fiskrogn) where it is
+ * installed, or with target/staticlib/libcapture.a of a checkout.
  *
  * Each call answers one 32-bit number. An answer of 65,536 or more is a refusal: its number times 65,536 plus its place.
  *
