@@ -68,7 +68,7 @@ pub fn ends_piece(walk: Walk, most: u32) -> bool
     if walk.line != 1 {
         return false;
     }
-    if walk.lines == 0 {
+    if walk.lines < 1 {
         return false;
     }
     if most < walk.lines {

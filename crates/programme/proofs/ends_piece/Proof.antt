@@ -16,7 +16,7 @@ returns c = let a = c .before .before .args in
 
 returns-2 : tie.Need-returns-2
 returns-2 c = let a = c .before .before .before .before .args in
-    let none : a .walk .lines ≤ 0 = omega (arith, c .if2 .taken) in
+    let none : a .walk .lines ≤ 0 = omega arith in
     sym (nothing-yet (a .walk) (a .most) none)
 
 returns-3 : tie.Need-returns-3
