@@ -17,7 +17,7 @@ use Rattle.confirmation.specs.Totals.{followsOn}
 use Rattle.recording.specs.Recording.{Recording, end, next, lineAfterAll}
 use Rattle.recording.specs.Programme.{Whole}
 use Rattle.recording.specs.Row as row
-use Rattle.recording.specs.Row.{Row, behindHeaders, RecordingFollows, RowIsOne}
+use Rattle.recording.specs.Row.{Row, behindHeaders, RecordingFollows, RecordingsInRow, RowIsOne}
 use Rattle.recording.proofs.Promise.{confirms, confirms-nothing-else}
 
 -- ---- one recording behind another, from the line that it awaits
@@ -94,6 +94,13 @@ unfolding followsOn begunOf
 recording-follows first second system start altered ps lines hf holds recording few is-system is-start =
     subst (λ (r : Run). followsOn r (begunOf second) ≡ true) (sym (confirms first system start altered ps lines hf holds recording few))
     (simp (eq-eqb (headerSystem second) system is-system, eq-eqb (headerStart second) (lineAfterAll system start ps) is-start))
+
+pub recordings-in-row : RecordingsInRow
+recordings-in-row first second rest system start altered later ps qs lines more hf holds recording few hf' holds' recording' few' files =
+    row.next second
+    (ap (λ (r : Run). r .number) (confirms second system (lineAfterAll system start ps) later qs more hf' holds' recording' few'))
+    (recording-follows first second system start altered ps lines hf holds recording few (holds' .is-system) (holds' .is-start))
+    files
 
 pub row-is-one : RowIsOne
 unfolding flatten

@@ -27,14 +27,25 @@ pub data Row : Run → List (List ℕ) → Type 0 where
 abbrev pub behindHeaders : List (List ℕ) → List ℕ
 behindHeaders files = flatten (map (drop headerLength) files)
 
--- A recording follows on another where it starts with the line behind that one's last (`recording-follows`). With `Confirms` this makes
--- rows of any recordings that were written so.
+-- A recording follows on another where it starts with the line behind that one's last (`recording-follows`).
 abbrev pub RecordingFollows : Type 0
 RecordingFollows =
     (first second : List ℕ) (system start altered : ℕ) (ps : List Samples) (lines : List (List ℕ)) → freshOf system start .number ≡ 0
     → Holds first system start lines [] → Recording system start ps (map wordsOf lines) altered → length ps ≤ mostLines
     → headerSystem second ≡ system → headerStart second ≡ lineAfterAll system start ps
     → followsOn (confirmedOf first) (begunOf second) ≡ true
+
+-- So recordings that were written one behind the other are a row, of any number of files (`recordings-in-row`).
+abbrev pub RecordingsInRow : Type 0
+RecordingsInRow =
+    (first second : List ℕ) (rest : List (List ℕ)) (system start altered later : ℕ) (ps qs : List Samples) (lines more : List (List ℕ))
+    → freshOf system start .number ≡ 0
+    → Holds first system start lines [] → Recording system start ps (map wordsOf lines) altered → length ps ≤ mostLines
+    → freshOf system (lineAfterAll system start ps) .number ≡ 0
+    → Holds second system (lineAfterAll system start ps) more []
+    → Recording system (lineAfterAll system start ps) qs (map wordsOf more) later → length qs ≤ mostLines
+    → Row (confirmedOf second) rest
+    → Row (confirmedOf first) (second ∷ rest)
 
 -- A row of files is one programme (`row-is-one`): behind their headers they hold, in turn, the lines of one recording that begins with the
 -- first one's line, damaged in at most one bit of each code.
