@@ -13,14 +13,14 @@ use Rattle.timing.specs.declared.Correction.{Correction}
 use Rattle.timing.specs.declared.Correction.the-variants.{Clean, Repaired, Refused}
 use Rattle.timing.specs.Code.{fourthOf, correctionOf}
 use Rattle.timing.specs.Refusals.{correctionRefusals, refusalOf}
-use Rattle.timing.proofs.Laws.{Bounded, bounded, fourth-below}
+use Rattle.timing.proofs.Laws.{Bounded, bounded, fourth-below, one-repair}
 use Rattle.timing.proofs.Theorems.{correction-exact}
 use Rattle.timing.specs.Report.{repairsOf}
 use Rattle.system.specs.declared.Walk.{Walk}
 use Rattle.lent.specs.Bytes.{judgedBytes}
 use Rattle.lent.specs.Refusals.{bytesRefusals}
 use Rattle.lent.proofs.Theorems.{bytes-exact, bytes-number}
-use Rattle.capture.specs.Answer.{answered, correctedOf, correctAnswer, judgeAnswer}
+use Rattle.capture.specs.Answer.{answered, correctedOf, correctAnswer, judgeAnswer, toldBy}
 use Rattle.capture.proofs.Bounds.{Small, small-bytes, repairs-low}
 
 -- An answer below 65,536 is no refusal, and any other tells the refusal's number and place.
@@ -44,10 +44,6 @@ corrected-low (Clean fvh) b = omega (arith, fourth-below fvh)
 corrected-low (Repaired fvh bit) b = omega (arith, fourth-below fvh, b .1)
 corrected-low (Refused number) b = omega arith
 
--- The refusal that an answer tells.
-abbrev pub toldBy : ℕ → Refusal
-toldBy answer = record { number = answer / 65536; place = cond (eqb (answer / 65536) 0) 0 (answer % 65536) }
-
 -- Correction from C refuses exactly as the table of 5, 7, 8 says, for every number that may come.
 pub capture-correct-exact : (word : ℕ) → Keeps (correctionRefusals word) (toldBy (correctAnswer word))
 unfolding correctAnswer
@@ -69,10 +65,16 @@ capture-judge-exact w bytes =
     subst (Keeps (bytesRefusals w bytes)) (answer-tells told (repairsOf (judgedBytes w bytes .report)) (repairs-low (judgedBytes w bytes .report)) (small .place) (small .accepted))
     (subst (Keeps (bytesRefusals w bytes)) (sym (bytes-number w bytes)) (bytes-exact w bytes))
 
--- An accepted line answers its repairs, and they are at most 2.
+-- An accepted line answers its repairs ..
 pub capture-judge-repairs : (w : Walk) (bytes : List ℕ) → judgedBytes w bytes .number ≡ 0 → judgeAnswer w bytes ≡ repairsOf (judgedBytes w bytes .report)
 unfolding judgeAnswer
 capture-judge-repairs w bytes e = simp (eq-eqb _ _ e)
+
+-- .. "0 to 2".
+pub capture-judge-most : (w : Walk) (bytes : List ℕ) → judgedBytes w bytes .number ≡ 0 → judgeAnswer w bytes ≤ 2
+capture-judge-most w bytes e =
+    let report = judgedBytes w bytes .report in
+    omega (arith, capture-judge-repairs w bytes e, one-repair (report .eav), one-repair (report .sav))
 
 -- Two results allowed for one line are the same.
 pub capture-judge-one-result : (w : Walk) (bytes : List ℕ) (r s : ℕ) → r ≡ judgeAnswer w bytes → s ≡ judgeAnswer w bytes → r ≡ s

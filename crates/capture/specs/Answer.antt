@@ -1,5 +1,5 @@
 -- Document 01, "The confirming program and the capture process": what the calls from C answer.
-use Prim.Native.Nat.{ℕ, _+_, _*_}
+use Prim.Native.Nat.{ℕ, _+_, _*_, _/_, _%_}
 use mathlib.Core.Bool.{cond}
 use mathlib.Core.List.{List}
 use lib.Dec.{eqb}
@@ -30,3 +30,7 @@ correctAnswer word = answered (refusalOf (correctionOf word)) (correctedOf (corr
 unfoldable pub judgeAnswer : Walk → List ℕ → ℕ
 judgeAnswer w bytes =
     answered (record { number = judgedBytes w bytes .number; place = judgedBytes w bytes .place }) (repairsOf (judgedBytes w bytes .report))
+
+-- the refusal that an answer tells: below 65,536 it is none
+abbrev pub toldBy : ℕ → Refusal
+toldBy answer = record { number = answer / 65536; place = cond (eqb (answer / 65536) 0) 0 (answer % 65536) }

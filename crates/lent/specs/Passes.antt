@@ -1,3 +1,4 @@
+-- For a private pass: no contract of a public call and no promise cites this file.
 -- What the functions of the fast pass ask for, and what each says of the words that it passed. Words are told by byte offsets.
 use Prim.Native.Nat.{ℕ, _+_, _*_, _/_, _<_, _≤_}
 use mathlib.Core.Path.{_≡_}

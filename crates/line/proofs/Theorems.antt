@@ -8,10 +8,10 @@ use native.Mathlib.Omega.{arith}
 use lib.Dec.{ltb, eqb}
 use lib.ListN.{length, getD}
 use borrow.Author.Tests.{lt-ltb, ltb-true, ltb-false, eqb-true, eqb-false}
-use Rattle.refusal.specs.Table.{when, _before_, Keeps}
+use Rattle.refusal.specs.Table.{when, _before_, Decides, Keeps}
 use Rattle.refusal.specs.Answer.{refuse}
 use Rattle.refusal.proofs.Cases.{by-test, or-either, or-left, or-right}
-use Rattle.refusal.proofs.Tables.{Numbers, numbers-when, numbers-before, keeps-unequal, keeps-before, keeps-last, keeps-lowest, Decides, decides-when, decides-before, decides-lowest}
+use Rattle.refusal.proofs.Tables.{Numbers, numbers-when, numbers-before, keeps-unequal, keeps-before, keeps-last, keeps-lowest, decides-when, decides-before, decides-lowest}
 use Rattle.timing.proofs.Theorems.{fourth-numbers, fourth-decides}
 use Rattle.system.specs.declared.System.{System}
 use Rattle.system.specs.Figures.{lineLength}

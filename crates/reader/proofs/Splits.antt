@@ -8,9 +8,9 @@ use lib.Dec.{eqb}
 use borrow.Author.Tests.{eq-eqb, ne-eqb, eqb-true}
 use Rattle.refusal.specs.declared.Refusal.{Refusal}
 use Rattle.refusal.specs.Answer.{none, refuse, orElse}
-use Rattle.refusal.specs.Table.{Keeps}
+use Rattle.refusal.specs.Table.{Decides, Keeps}
 use Rattle.refusal.proofs.Firsts.{orElse-accepted, orElse-none}
-use Rattle.refusal.proofs.Tables.{keeps-unequal, keeps-before, Decides, decides-when, decides-before}
+use Rattle.refusal.proofs.Tables.{keeps-unequal, keeps-before, decides-when, decides-before}
 use Rattle.line.specs.Lengths.{bufferRefusal}
 use Rattle.line.specs.Samples.{activeLength}
 use Rattle.line.proofs.Theorems.{buffer-exact, buffer-decides}

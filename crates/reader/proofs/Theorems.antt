@@ -1,18 +1,18 @@
 -- The promises on judging and reading a line, of the definitions that the calls' contracts cite. Assumes nothing.
 use Prim.Native.Nat.{ℕ}
-use mathlib.Core.Path.{_≡_, refl, sym, ap, _∙_}
+use mathlib.Core.Path.{_≡_, refl, sym, ap, subst, _∙_}
 use mathlib.Core.Bool.{true, false}
 use mathlib.Core.List.{List, []}
 use mathlib.Core.Logic.{inr}
 use native.Mathlib.Omega.{arith}
 use lib.Dec.{eqb}
 use lib.ListN.{length, take, drop, length-take, length-drop}
-use borrow.Author.Tests.{eqb-true, eqb-false}
+use borrow.Author.Tests.{eq-eqb, eqb-true, eqb-false}
 use Rattle.refusal.specs.declared.Refusal.{Refusal}
-use Rattle.refusal.specs.Answer.{none}
-use Rattle.refusal.specs.Table.{Row, Keeps}
+use Rattle.refusal.specs.Answer.{none, orElse}
+use Rattle.refusal.specs.Table.{Row, noRows, Decides, Keeps}
 use Rattle.refusal.proofs.Cases.{by-test}
-use Rattle.refusal.proofs.Tables.{keeps-before, keeps-last, Decides, decides-when, decides-before}
+use Rattle.refusal.proofs.Tables.{keeps-before, keeps-last, decides-when, decides-before}
 use Rattle.timing.specs.declared.Report.{Report}
 use Rattle.timing.specs.Report.{cleanReport}
 use Rattle.system.specs.declared.Walk.{Walk}
@@ -22,10 +22,11 @@ use Rattle.system.proofs.Theorems.{walk-exact, walk-decides}
 use Rattle.line.specs.declared.Due.{Due}
 use Rattle.line.specs.Fault.{wordRefusal}
 use Rattle.line.specs.Lengths.{lengthRefusal, bufferRefusal, bufferRefusals}
-use Rattle.line.specs.Samples.{activeLength, ysFrom, cbsFrom, crsFrom}
+use Rattle.line.specs.Samples.{activeLength, yLength, cLength, ysFrom, cbsFrom, crsFrom}
 use Rattle.line.proofs.Theorems.{length-exact, buffer-exact, buffer-decides, words-exact, words-decide}
 use Rattle.reader.specs.declared.Judgement.{Judgement}
 use Rattle.reader.specs.Judge.{dueIn, readRefusal, reportOf, refusedAt, acceptedAt, judgedOf, bufferAfter, activeOf}
+use Rattle.reader.specs.Left.{Stands, Advances}
 use Rattle.reader.specs.Refusals.{readRefusals}
 use Rattle.reader.proofs.Judged.{accepted-is-none, active-fits, judged-refused, judged-accepted, buffer-refused, buffer-blank, buffer-taken, active-refused, active-accepted}
 
@@ -47,10 +48,6 @@ read-decides rows w words decided =
     (decides-before _ _ (decides-when (length words ≡ lineLength (systemOf (w .system)) → ⊥) 3 0)
     (decides-before _ _ decided (words-decide (dueIn w words) words)))
 
--- the rows of a call that has no sample buffers
-abbrev pub noRows : Row
-noRows r = ⊥
-
 module _ (w : Walk) (words : List ℕ) where
   -- Judging, and asking for the active part, keep to the table without rows for sample buffers ..
   pub judge-call-exact : Keeps (readRefusals noRows w words) (readRefusal none w words)
@@ -70,18 +67,6 @@ module _ (w : Walk) (words : List ℕ) where
     read-call-decides = read-decides (bufferRefusals y cb cr) w words (buffer-decides y cb cr)
 
 -- ---- What the answer is, refused or accepted.
-
--- what a refusal leaves as it was
-pub record Stands (w : Walk) (j : Judgement) : Type 0 where
-  pub walk : j .walk ≡ w
-  pub report : j .report ≡ cleanReport
-  pub buffer : (d : Due) (samples before : List ℕ) → bufferAfter j d samples before ≡ before
-
--- what an accepted line leaves: the buffers hold its samples where its V is 0
-pub record Advances (w : Walk) (words : List ℕ) (j : Judgement) : Type 0 where
-  pub answer : j ≡ acceptedAt w (reportOf (dueIn w words) words)
-  pub picture : dueIn w words .v ≡ false → (samples before : List ℕ) → bufferAfter j (dueIn w words) samples before ≡ samples
-  pub blank : dueIn w words .v ≡ true → (samples before : List ℕ) → bufferAfter j (dueIn w words) samples before ≡ before
 
 module _ (buffers : Refusal) (w : Walk) (words : List ℕ) where
   -- The judgement's number and place are those of the refusal, or both 0.
@@ -121,6 +106,17 @@ module _ (w : Walk) (words : List ℕ) where
       × (activeOf w words ≡ [] → readRefusal none w words .number ≡ 0 → ⊥)
   active-empty-exactly =
       (active-refused w words, λ empty z. let whole = active-part z .1 in let gone = ap length empty in omega arith)
+
+  -- The same said of the read call itself, with sample buffers of the right lengths.
+  pub active-empty-as-read-refused : (y cb cr : ℕ) → y ≡ yLength → cb ≡ cLength → cr ≡ cLength
+      → ((judgedOf (bufferRefusal y cb cr) w words .number ≡ 0 → ⊥) → activeOf w words ≡ [])
+      × (activeOf w words ≡ [] → judgedOf (bufferRefusal y cb cr) w words .number ≡ 0 → ⊥)
+  unfolding bufferRefusal orElse
+  active-empty-as-read-refused y cb cr hy hcb hcr =
+      let fine : bufferRefusal y cb cr ≡ none = simp (eq-eqb y yLength hy, eq-eqb cb cLength hcb, eq-eqb cr cLength hcr) in
+      let number : readRefusal none w words .number ≡ judgedOf (bufferRefusal y cb cr) w words .number =
+      sym (ap (λ (r : Refusal). r .number) (judged-number none w words)) ∙ ap (λ (r : Refusal). judgedOf r w words .number) (sym fine) in
+      subst (λ (n : ℕ). ((n ≡ 0 → ⊥) → activeOf w words ≡ []) × (activeOf w words ≡ [] → n ≡ 0 → ⊥)) number active-empty-exactly
 
 -- ---- Two results that a contract allows for one input are the same.
 

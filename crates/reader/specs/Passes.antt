@@ -1,3 +1,4 @@
+-- For a private pass: no contract of a public call and no promise cites this file.
 -- What the scan and the quick pass over a line speak of: where its parts start, and what a loop has found of a part.
 use Prim.Native.Nat.{ℕ, _+_, _*_, _/_, _<_, _≤_}
 use mathlib.Core.Path.{_≡_}

@@ -6,7 +6,7 @@ use mathlib.Core.Bool.{Bool, true, false, cond, not, true≢false}
 use mathlib.Core.Logic.{_⊎_, inl, inr, ⊎-elim}
 use Rattle.refusal.specs.declared.Refusal.{Refusal}
 use Rattle.refusal.specs.Answer.{none, refuse, orElse, firstFrom}
-use Rattle.refusal.specs.Table.{Row, when, Silent, _before_, Lowest, Keeps}
+use Rattle.refusal.specs.Table.{Row, when, Silent, _before_, Lowest, Decides, Keeps}
 use lib.Dec.{eqb, ltb}
 use borrow.Author.Tests.{eqb-true, eqb-false, ne-eqb, ltb-true, ltb-false}
 use Rattle.refusal.proofs.Cases.{by-test, not-true}
@@ -76,10 +76,7 @@ keeps-lowest at-place f n h = go (found f n)
         subst (Keeps (Lowest n at-place)) (sym (first-at f n p l lower bad))
         (inl (record { within = l; asked = h p l .asked bad; lower = λ j q. h j (omega arith) .silent (lower j q) }, bad))
 
--- A table decides: it asks for one refusal at the most.
-abbrev pub Decides : Row → Type 0
-Decides row = (r s : Refusal) → row r → row s → r ≡ s
-
+-- ---- that a table decides
 pub decides-when : (C : Type 0) (n p : ℕ) → Decides (when C n p)
 decides-when C n p r s x y = x .1 ∙ sym (y .1)
 

@@ -18,6 +18,10 @@ when condition number place r = condition × (r ≡ record { number = number; pl
 abbrev pub Silent : Row → Type 0
 Silent row = (r : Refusal) → row r → ⊥
 
+-- the table that asks for none
+abbrev pub noRows : Row
+noRows r = ⊥
+
 -- the first table, and where it is silent the second
 infixr 10 _before_
 abbrev pub _before_ : Row → Row → Row
@@ -28,6 +32,10 @@ pub record Lowest (n : ℕ) (at : ℕ → Row) (r : Refusal) : Type 0 where
   pub within : r .place < n
   pub asked : at (r .place) r
   pub lower : (j : ℕ) → j < r .place → Silent (at j)
+
+-- A table decides: it asks for one refusal at the most.
+abbrev pub Decides : Row → Type 0
+Decides row = (r s : Refusal) → row r → row s → r ≡ s
 
 -- An answer keeps to a table: it is a refusal that the table asks for, or the table is silent and the answer is that of acceptance.
 abbrev pub Keeps : Row → Refusal → Type 0

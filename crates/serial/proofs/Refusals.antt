@@ -10,9 +10,9 @@ use lib.Dec.{ltb}
 use borrow.Author.Tests.{lt-ltb, le-ltb, ltb-true, ltb-false, eq-eqb, eqb-true, not-false}
 use Rattle.refusal.specs.declared.Refusal.{Refusal}
 use Rattle.refusal.specs.Answer.{none, refuse, orElse, firstFrom}
-use Rattle.refusal.specs.Table.{Row, when, Lowest, Keeps}
+use Rattle.refusal.specs.Table.{Row, when, Lowest, Decides, Keeps}
 use Rattle.refusal.proofs.Firsts.{orElse-accepted, orElse-refused, orElse-none, first-none, first-none-back}
-use Rattle.refusal.proofs.Tables.{keeps-when, keeps-unequal, keeps-before, numbers-when, keeps-lowest, Decides, decides-when, decides-before, decides-lowest}
+use Rattle.refusal.proofs.Tables.{keeps-when, keeps-unequal, keeps-before, numbers-when, keeps-lowest, decides-when, decides-before, decides-lowest}
 use Rattle.serial.specs.declared.State.{State}
 use Rattle.serial.specs.Calls.{overAt, serialRefusal}
 use Rattle.serial.specs.Refusals.{serialRefusals}

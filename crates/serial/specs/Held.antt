@@ -1,3 +1,4 @@
+-- For a private pass: no contract of a public call and no promise cites this file.
 -- What the private functions work on: the state as it is held between words, and words that were not refused.
 use mathlib.Core.Path.{_≡_}
 use mathlib.Core.List.{List, reverse}

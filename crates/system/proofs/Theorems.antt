@@ -7,9 +7,9 @@ use native.Mathlib.Omega.{arith}
 use lib.Dec.{ltb, leb, eqb}
 use borrow.Author.Tests.{lt-ltb, le-leb, lt-leb, leb-true, leb-false, ltb-true, eq-eqb, eqb-true, eqb-false, ne-eqb}
 use Rattle.refusal.specs.Answer.{none, refuse, orElse}
-use Rattle.refusal.specs.Table.{when, _before_, Keeps}
+use Rattle.refusal.specs.Table.{when, _before_, Decides, Keeps}
 use Rattle.refusal.proofs.Cases.{by-test, not-true, or-either, or-left, or-right}
-use Rattle.refusal.proofs.Tables.{keeps-when, keeps-before, keeps-last, Decides, decides-when, decides-before}
+use Rattle.refusal.proofs.Tables.{keeps-when, keeps-before, keeps-last, decides-when, decides-before}
 use Rattle.system.specs.declared.System.the-variants.{Lines525, Lines625}
 use Rattle.system.specs.declared.Walk.{Walk}
 use Rattle.system.specs.declared.Fresh.{Fresh}
@@ -85,12 +85,20 @@ walk-decides w =
     decides-before _ _ (decides-when (NoSystem (w .system)) 1 0)
     (decides-before _ _ (decides-when (NoLine (w .system) (w .line)) 2 0) (decides-when (BadCounts w) 4 0))
 
--- The number of a fresh walk's answer is that refusal's, and a refusal's walk is all zero.
+-- The number of a fresh walk's answer is that refusal's.
 pub fresh-number : (number start : ℕ) → freshOf number start .number ≡ freshRefusal number start .number
 unfolding freshOf
 fresh-number number start =
     by-test (eqb (freshRefusal number start .number) 0)
     (λ e. simp e (sym (eqb-true _ _ e))) (λ e. simp e)
+
+-- "its refusal returns a walk all zero"
+pub fresh-refused-zero : (number start : ℕ) → (freshOf number start .number ≡ 0 → ⊥)
+    → freshOf number start .walk ≡ record { system = 0; line = 0; lines = 0; repairs = 0 }
+unfolding freshOf
+fresh-refused-zero number start refused =
+    by-test (eqb (freshRefusal number start .number) 0)
+    (λ e. absurd (refused (fresh-number number start ∙ eqb-true _ _ e))) (λ e. simp e)
 
 -- ---- Two results allowed for one input are the same.
 pub fresh-one-result : (number start : ℕ) (r s : Fresh) → r ≡ freshOf number start → s ≡ freshOf number start → r ≡ s

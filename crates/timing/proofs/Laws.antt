@@ -3,7 +3,7 @@ use Prim.Native.Nat.{ℕ, zero, suc, _+_, _*_, _/_, _%_, _<_, _≤_}
 use mathlib.Core.Path.{_≡_, refl, sym, ap, subst, _∙_}
 use mathlib.Core.Bool.{Bool, cond}
 use native.Mathlib.Omega.{arith}
-use lib.Dec.{T, ltb, leb, eqb, eqb→eq, ltb→lt, le→leb, lit<}
+use lib.Dec.{T, ltb, leb, eqb, eqb→eq, ltb→lt, leb→le, le→leb, lit<}
 use borrow.Author.Tests.{lt-ltb, le-ltb, ltb-true, ltb-false, eq-eqb, ne-eqb}
 use Rattle.refusal.proofs.Cases.{by-cond, by-test}
 use Rattle.timing.specs.declared.Correction.{Correction}
@@ -132,19 +132,20 @@ one-repair (report.Repaired bit) = omega arith
 -- ---- a correction's numbers are in range
 abbrev pub Bounded : Correction → Type 0
 Bounded (Clean fvh) = fvh < 8
-Bounded (Repaired fvh bit) = (fvh < 8) × (bit < 9)
+Bounded (Repaired fvh bit) = (fvh < 8) × (bit < 9) × (2 ≤ bit)
 Bounded (Refused number) = number < 16
 
 bounded? : Correction → Bool
 bounded? (Clean fvh) = ltb fvh 8
-bounded? (Repaired fvh bit) = both (ltb fvh 8) (ltb bit 9)
+bounded? (Repaired fvh bit) = both (ltb fvh 8) (both (ltb bit 9) (leb 2 bit))
 bounded? (Refused number) = ltb number 16
 
 to-bounded : (c : Correction) → T (bounded? c) → Bounded c
 unfolding bounded?
 to-bounded (Clean fvh) t = ltb→lt fvh 8 t
 to-bounded (Repaired fvh bit) t =
-    (ltb→lt fvh 8 (both-left (ltb fvh 8) (ltb bit 9) t), ltb→lt bit 9 (both-right (ltb fvh 8) (ltb bit 9) t))
+    let bits = both-right (ltb fvh 8) (both (ltb bit 9) (leb 2 bit)) t in
+    (ltb→lt fvh 8 (both-left (ltb fvh 8) _ t), ltb→lt bit 9 (both-left (ltb bit 9) (leb 2 bit) bits), leb→le 2 bit (both-right (ltb bit 9) (leb 2 bit) bits))
 to-bounded (Refused number) t = ltb→lt number 16 t
 
 pattern-bounded : (p : ℕ) → p < 128 → Bounded (patternCorrection p)

@@ -10,17 +10,17 @@ use lib.Count.{onesIn, ones, trailingZeros}
 use borrow.Author.Tests.{lt-ltb, le-ltb, ltb-true, ltb-false, leb-true, leb-false, eqb-true, eq-eqb}
 use Rattle.refusal.specs.declared.Refusal.{Refusal}
 use Rattle.refusal.specs.Answer.{refuse, orElse}
-use Rattle.refusal.specs.Table.{when, _before_, Keeps}
+use Rattle.refusal.specs.Table.{when, _before_, Decides, Keeps}
 use Rattle.refusal.proofs.Cases.{by-test}
-use Rattle.refusal.proofs.Tables.{Numbers, keeps-number, numbers-when, numbers-before, Decides, decides-when, decides-before}
+use Rattle.refusal.proofs.Tables.{Numbers, keeps-number, numbers-when, numbers-before, decides-when, decides-before}
 use Rattle.timing.specs.declared.Correction.{Correction}
 use Rattle.timing.specs.declared.Correction.the-variants.{Clean, Repaired, Refused}
 use Rattle.timing.specs.Code.{legalOf, fourthOf, sevenOf, distanceOf, bitOf, correctionBelow, patternCorrection, correctionOf}
-use Rattle.timing.specs.Report.{numberOf, numberWhere}
+use Rattle.timing.specs.Report.{numberOf, numberWhere, Values, valuesOf}
 use Rattle.timing.specs.Refusals.{NoneWithinOne, fourthRefusals, correctionRefusals, refusalOf}
 use Rattle.timing.proofs.Every.{both, both-left, both-right, implies, meet, every, countBelow, lift, lift2, lift3, gather}
 use Rattle.timing.proofs.Same.{same, same→eq}
-use Rattle.timing.proofs.Laws.{by-pattern}
+use Rattle.timing.proofs.Laws.{by-pattern, Bounded, bounded}
 
 -- ---- What was written is found again.
 
@@ -52,6 +52,22 @@ two-flips-refused fvh a b low hk two less nine hl =
     (meet (ltb a b) _
     (meet (leb 2 a) _ (lift 4 (two-flips fvh a b) (lift3 8 9 9 (λ fvh a b. every 4 (two-flips fvh a b)) tt fvh a b hk (omega arith) nine) low hl)
     (le→leb 2 a two)) (lt→ltb a b less))
+
+-- The same in the document's values: a number, F, V, H, and the repaired bit or 0.
+pub legal-values : (fvh low : ℕ) → fvh < 8 → low < 4 → valuesOf (correctionOf (fourthOf fvh + low)) ≡ record { number = 0; fvh = fvh; bit = 0 }
+legal-values fvh low hk hl = ap valuesOf (legal-is-clean fvh low hk hl)
+
+pub one-flip-values : (fvh bit low : ℕ) → fvh < 8 → 2 ≤ bit → bit < 9 → low < 4
+    → valuesOf (correctionOf (bitXor (fourthOf fvh) (2 ^ bit) + low)) ≡ record { number = 0; fvh = fvh; bit = bit }
+one-flip-values fvh bit low hk two nine hl = ap valuesOf (one-flip-corrected fvh bit low hk two nine hl)
+
+pub two-flips-values : (fvh a b low : ℕ) → fvh < 8 → 2 ≤ a → a < b → b < 9 → low < 4
+    → valuesOf (correctionOf (bitXor (bitXor (fourthOf fvh) (2 ^ a)) (2 ^ b) + low)) ≡ record { number = 8; fvh = 0; bit = 0 }
+two-flips-values fvh a b low hk two less nine hl = ap valuesOf (two-flips-refused fvh a b low hk two less nine hl)
+
+-- A bit that is told as repaired is one of the bits 2 to 8, whatever the word.
+pub repaired-bit : (w fvh bit : ℕ) → correctionOf w ≡ Repaired fvh bit → (2 ≤ bit) × (bit ≤ 8)
+repaired-bit w fvh bit e = let b = subst Bounded e (bounded w) in (b .2, omega (arith, b .1))
 
 -- The low bits 1 and 0 of a word never matter.
 pub low-bits-ignored : (w low : ℕ) → low < 4 → correctionOf (w / 4 * 4 + low) ≡ correctionOf w

@@ -20,11 +20,27 @@ numberWhere due (correction.Clean fvh) = cond (eqb fvh due) 0 9
 numberWhere due (correction.Repaired fvh bit) = cond (eqb fvh due) 0 9
 numberWhere due (correction.Refused number) = number
 
+-- what a correction answers: a refusal's number, or 0 and F, V, H with the repaired bit's number, 0 where the word was clean
+pub record Values : Type 0 where
+  pub number : ℕ
+  pub fvh : ℕ
+  pub bit : ℕ
+
+abbrev pub valuesOf : Correction → Values
+valuesOf (correction.Clean fvh) = record { number = 0; fvh = fvh; bit = 0 }
+valuesOf (correction.Repaired fvh bit) = record { number = 0; fvh = fvh; bit = bit }
+valuesOf (correction.Refused number) = record { number = number; fvh = 0; bit = 0 }
+
 -- "Per code the reader reports clean, or repaired with the bit's number"
 abbrev pub codeReportOf : Correction → CodeReport
 codeReportOf (correction.Clean fvh) = Clean
 codeReportOf (correction.Repaired fvh bit) = Repaired bit
 codeReportOf (correction.Refused number) = Clean
+
+-- what a code's report tells: 0 where clean, or "repaired with the bit's number (2 to 8)"
+abbrev pub bitTold : CodeReport → ℕ
+bitTold Clean = 0
+bitTold (Repaired bit) = bit
 
 -- how many codes a report tells as repaired
 abbrev pub repairsIn : CodeReport → ℕ

@@ -1,7 +1,7 @@
 // Timing codes: the fourth word of F, V, H, and the correction of a fourth word that was read.
 // F, V, H are one number from 0 to 7: F counts 4, V counts 2, H counts 1.
 ghost use mathlib.Core.Path.{_≡_};
-ghost use Rattle.timing.specs.Code.{legalOf, fourthOf, distanceOf, patternCorrection, correctionOf};
+ghost use Rattle.timing.specs.Code.{legalOf, fourthOf, patternCorrection, correctionOf};
 ghost use Rattle.timing.specs.Report.{codeReportOf};
 
 // What correction finds. A bit is told by its number in the word, 2 to 8.
@@ -24,7 +24,7 @@ pub struct Report {
 }
 
 // The seven bits F, V, H, P3, P2, P1, P0 of a legal code: each flag stands for itself and inverts the protection bits that follow it.
-pub fn legal(fvh: u32) -> u32
+fn legal(fvh: u32) -> u32
     ensures { λ r. ⌜ r ≡ legalOf fvh ⌝ }
 {
     let f = fvh / 4 % 2 * 0b1000111;
@@ -38,13 +38,6 @@ pub fn fourth(fvh: u32) -> u16
     ensures { λ r. ⌜ r ≡ fourthOf fvh ⌝ }
 {
     (512 + 4 * legal(fvh)) as u16
-}
-
-// How many bits of two patterns differ.
-pub fn distance(p: u32, q: u32) -> u32
-    ensures { λ r. ⌜ r ≡ distanceOf p q ⌝ }
-{
-    u32::count_ones(p ^ q)
 }
 
 // What seven bits say: the legal pattern within one inverted bit, if there is one.

@@ -10,10 +10,10 @@ use lib.Dec.{ltb, eqb}
 use borrow.Author.Tests.{lt-ltb, le-ltb, ltb-true, ltb-false, eq-eqb, eqb-true}
 use Rattle.refusal.specs.declared.Refusal.{Refusal}
 use Rattle.refusal.specs.Answer.{none, refuse, orElse, firstFrom}
-use Rattle.refusal.specs.Table.{Row, when, _before_, Lowest, Keeps}
+use Rattle.refusal.specs.Table.{Row, when, _before_, Lowest, Decides, Keeps}
 use Rattle.refusal.proofs.Cases.{by-test, not-false}
 use Rattle.refusal.proofs.Firsts.{orElse-accepted, orElse-refused, orElse-none, first-none, first-at, first-none-back}
-use Rattle.refusal.proofs.Tables.{keeps-unequal, keeps-before, keeps-last, numbers-when, keeps-lowest, Decides, decides-when, decides-before, decides-lowest}
+use Rattle.refusal.proofs.Tables.{keeps-unequal, keeps-before, keeps-last, numbers-when, keeps-lowest, decides-when, decides-before, decides-lowest}
 use Rattle.line.specs.Samples.{activeLength}
 use Rattle.v210.specs.Row.{rowLength, rowWords, rowWord, spareAt, spareRefusal, unpackRefusal, overAt, packRefusal}
 use Rattle.v210.specs.Refusals.{unpackRefusals, packRefusals}

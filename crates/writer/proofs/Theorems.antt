@@ -10,10 +10,10 @@ use lib.ListN.{length}
 use borrow.Author.Tests.{eq-eqb, ne-eqb, eqb-true}
 use Rattle.refusal.specs.declared.Refusal.{Refusal}
 use Rattle.refusal.specs.Answer.{none}
-use Rattle.refusal.specs.Table.{Row, when, Lowest, Keeps}
+use Rattle.refusal.specs.Table.{Row, when, Lowest, Decides, Keeps}
 use Rattle.refusal.proofs.Cases.{by-test}
 use Rattle.refusal.proofs.Firsts.{orElse-none}
-use Rattle.refusal.proofs.Tables.{numbers-when, keeps-before, keeps-last, keeps-lowest, Decides, decides-when, decides-before, decides-lowest}
+use Rattle.refusal.proofs.Tables.{numbers-when, keeps-before, keeps-last, keeps-lowest, decides-when, decides-before, decides-lowest}
 use Rattle.system.specs.Figures.{lineLength, isSystem, systemOf, vOf}
 use Rattle.system.specs.Walk.{isLine, systemRefusal, lineRefusal, freshRefusal}
 use Rattle.system.specs.Refusals.{NoSystem, NoLine, freshRefusals}

@@ -1,4 +1,5 @@
--- What the writer's own passes over buffers, and over the parts of a line, leave: for the contracts of its private functions.
+-- For a private pass: no contract of a public call and no promise cites this file.
+-- What the writer's own passes over buffers, and over the parts of a line, leave.
 use Prim.Native.Nat.{ℕ, _-_, _<_, _≤_}
 use mathlib.Core.Path.{_≡_}
 use mathlib.Core.List.{List}
