@@ -1,37 +1,26 @@
 -- Laws of the run over the bytes behind a header: it ends with its refusal, and it is judged line after line, however many bytes follow.
 -- Assumes nothing.
-use Prim.Native.Nat.{ℕ, zero, suc, _≤_}
+use Prim.Native.Nat.{ℕ, _≤_}
 use mathlib.Core.Path.{_≡_, refl, sym, ap, _∙_}
 use mathlib.Core.List.{List, [], _∷_}
 use native.Mathlib.Omega.{arith}
 use lib.ListN.{length, take, drop, length-drop, drop-of-length-le}
 use lib.Seq.{take-all}
 use borrow.Author.Tests.{eq-eqb, ne-eqb}
+use Rattle.intake.specs.Arrival.{pieces}
+use Rattle.intake.proofs.Pieces.{pieces-enough}
 use Rattle.system.specs.declared.Walk.{Walk}
 use Rattle.system.specs.Figures.{systemOf}
 use Rattle.system.specs.Walk.{walkRefusal}
 use Rattle.system.proofs.Laws.{line-is-parts}
 use Rattle.confirmation.specs.declared.Run.{Run}
-use Rattle.confirmation.specs.Run.{lineBytes, judgedNext, pieces, through, bodyOf}
+use Rattle.confirmation.specs.Run.{lineBytes, judgedNext, through, bodyOf}
 use Rattle.confirmation.proofs.Nexts.{endedWith, next-refused, next-line-bytes}
 
 pub line-has-bytes : (w : Walk) → 1 ≤ lineBytes w
 line-has-bytes w = omega (arith, line-is-parts (systemOf (w .system)))
 
--- more than enough pieces are the same pieces
-pieces-enough : (n j k : ℕ) (bytes : List ℕ) → 1 ≤ n → length bytes ≤ j → length bytes ≤ k → pieces j n bytes ≡ pieces k n bytes
-unfolding pieces
-pieces-enough n zero zero [] l a b = refl
-pieces-enough n zero (suc k) [] l a b = refl
-pieces-enough n (suc j) zero [] l a b = refl
-pieces-enough n (suc j) (suc k) [] l a b = refl
-pieces-enough n zero k (x ∷ bytes) l a b = absurd (omega arith)
-pieces-enough n (suc j) zero (x ∷ bytes) l a b = absurd (omega arith)
-pieces-enough n (suc j) (suc k) (x ∷ bytes) l a b =
-    let less = length-drop n (x ∷ bytes) in
-    ap (λ (ps : List (List ℕ)). take n (x ∷ bytes) ∷ ps) (pieces-enough n j k (drop n (x ∷ bytes)) l (omega arith) (omega arith))
-
-through-ended : (r : Run) (ps : List (List ℕ)) → (r .number ≡ 0 → ⊥) → through r ps ≡ r
+pub through-ended : (r : Run) (ps : List (List ℕ)) → (r .number ≡ 0 → ⊥) → through r ps ≡ r
 unfolding through
 through-ended r [] n = refl
 through-ended r (p ∷ ps) n = simp (ne-eqb _ _ n)

@@ -3,3 +3,4 @@ pub mod Bodies
 pub mod Follows
 pub mod Reached
 pub mod Theorems
+pub mod Exact

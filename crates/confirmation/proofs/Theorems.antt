@@ -44,7 +44,7 @@ fed-body (piece ∷ ps) r held h =
     ∙ rw append-assoc
 
 -- a header is its first four bytes
-header-more : (h more : List ℕ) (i : ℕ) → length h ≡ headerLength → i + 1 < headerLength → headerWord (h ++ more) i ≡ headerWord h i
+pub header-more : (h more : List ℕ) (i : ℕ) → length h ≡ headerLength → i + 1 < headerLength → headerWord (h ++ more) i ≡ headerWord h i
 header-more h more i e l =
     simp (
       le-ltb (length h) headerLength (omega arith),

@@ -1,3 +1,4 @@
 pub mod Run
 pub mod Follow
 pub mod Totals
+pub mod Refusals

@@ -1,9 +1,10 @@
 -- Document 01, "The confirming program": what a run over bytes comes to, whole, for every list of bytes.
-use Prim.Native.Nat.{ℕ, zero, suc, _*_}
+use Prim.Native.Nat.{ℕ, _*_}
 use mathlib.Core.List.{List, [], _∷_}
 use mathlib.Core.Bool.{cond}
 use lib.Dec.{ltb, eqb}
-use lib.ListN.{length, take, drop}
+use lib.ListN.{length, drop}
+use Rattle.intake.specs.Arrival.{allPieces}
 use Rattle.system.specs.declared.Walk.{Walk}
 use Rattle.system.specs.Figures.{lineLength, systemOf}
 use Rattle.system.specs.Walk.{freshOf}
@@ -51,20 +52,14 @@ judgedNext r bytes =
       place = judgedBytes (r .walk) bytes .place;
     }
 
--- bytes cut into pieces of n, of which the last may be short; at most k of them
-unfoldable pub pieces : ℕ → ℕ → List ℕ → List (List ℕ)
-pieces zero n bytes = []
-pieces (suc k) n [] = []
-pieces (suc k) n (b ∷ bytes) = take n (b ∷ bytes) ∷ pieces k n (drop n (b ∷ bytes))
-
 -- "It stops at the first refusal."
 unfoldable pub through : Run → List (List ℕ) → Run
 through r [] = r
 through r (piece ∷ rest) = cond (eqb (r .number) 0) (through (judgedNext r piece) rest) r
 
--- the run over the bytes behind the header
+-- the run over the bytes behind the header, cut into lines, of which the last may be short
 unfoldable pub bodyOf : Run → List ℕ → Run
-bodyOf r bytes = through r (pieces (length bytes) (lineBytes (r .walk)) bytes)
+bodyOf r bytes = through r (allPieces (lineBytes (r .walk)) bytes)
 
 -- the whole run
 unfoldable pub confirmedOf : List ℕ → Run

@@ -85,7 +85,7 @@ impl Run {
     }
 
     // The run after these bytes were judged as its next line: short of a line they are 3, after 10,000,000 lines 4.
-    fn next(self, bytes: &[u8]) -> Run
+    pub fn next(self, bytes: &[u8]) -> Run
         ensures { λ r. ⌜ r ≡ judgedNext self (now (bytes .entry)) ⌝ }
     {
         let judgement = lent::judge(self.walk, bytes);

@@ -8,9 +8,9 @@ use lib.Dec.{eqb}
 use lib.ListN.{length}
 use borrow.Author.Tests.{eq-eqb, eqb-true}
 use Rattle.refusal.specs.Answer.{refuse}
-use Rattle.refusal.specs.Table.{Keeps}
+use Rattle.refusal.specs.Table.{Decides, Keeps}
 use Rattle.refusal.proofs.Cases.{by-test}
-use Rattle.refusal.proofs.Tables.{keeps-unequal, keeps-before, keeps-last, Decides, decides-when, decides-before}
+use Rattle.refusal.proofs.Tables.{keeps-unequal, keeps-before, keeps-last, decides-when, decides-before}
 use Rattle.system.specs.declared.Walk.{Walk}
 use Rattle.system.specs.Figures.{lineLength, systemOf}
 use Rattle.system.specs.Walk.{walkRefusal}

@@ -3,3 +3,4 @@ pub mod Records
 pub mod RecordTheorems
 pub mod Extracts
 pub mod ExtractTheorems
+pub mod StepTheorems

@@ -8,10 +8,10 @@ use lib.Dec.{eqb}
 use lib.ListN.{length}
 use borrow.Author.Tests.{eqb-true}
 use Rattle.refusal.specs.Answer.{none, refuse}
-use Rattle.refusal.specs.Table.{Keeps}
+use Rattle.refusal.specs.Table.{Decides, Keeps}
 use Rattle.refusal.proofs.Cases.{by-test}
 use Rattle.refusal.proofs.Firsts.{orElse-none}
-use Rattle.refusal.proofs.Tables.{keeps-unequal, keeps-before, keeps-last, Decides, decides-when, decides-before, decides-lowest}
+use Rattle.refusal.proofs.Tables.{keeps-unequal, keeps-before, keeps-last, decides-when, decides-before, decides-lowest}
 use Rattle.timing.specs.Report.{cleanReport}
 use Rattle.system.specs.declared.Walk.{Walk}
 use Rattle.system.specs.Figures.{lineLength, systemOf}
@@ -22,17 +22,9 @@ use Rattle.reader.specs.declared.Judgement.{Judgement}
 use Rattle.writer.specs.Write.{sampleRefusal}
 use Rattle.writer.proofs.Laws.{passed}
 use Rattle.v210.specs.Row.{rowLength, rowWords, spareRefusal}
-use Rattle.programme.specs.Record.{dueAtWalk, takesRow, rowSamples, unpackedRefusal, lineRefusal, recordRefusal, recordedOf, lineBytesOf, lineBytesAfter}
+use Rattle.programme.specs.Record.{dueAtWalk, takesRow, rowSamples, unpackedRefusal, lineRefusal, recordRefusal, recordedOf, lineBytesOf, lineBytesAfter, Recordable}
 use Rattle.programme.specs.Refusals.{recordRefusals}
 use Rattle.programme.proofs.Records.{same-number, unpacked-long, unpacked-fits, line-blank, line-picture, line-samples, line-exact, record-line, recorded-refused, recorded-accepted, bytes-refused, bytes-accepted}
-
--- What a line that is recorded was given.
-pub record Recordable (w : Walk) (row : List ℕ) (room : ℕ) : Type 0 where
-  pub walk : walkRefusal w .number ≡ 0
-  pub whole : room ≡ 2 * lineLength (systemOf (w .system))
-  pub long : takesRow w ≡ true → length row ≡ rowLength
-  pub spare : takesRow w ≡ true → spareRefusal row .number ≡ 0
-  pub samples : takesRow w ≡ true → sampleRefusal (dueAtWalk w) (rowSamples row) .number ≡ 0
 
 module _ (w : Walk) (row : List ℕ) (room : ℕ) where
   -- Each refusal comes exactly when its condition holds and none earlier does.

@@ -1,3 +1,5 @@
 pub mod Record
 pub mod Extract
 pub mod Refusals
+pub mod Tape
+pub mod Extraction

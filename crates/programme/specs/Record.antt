@@ -1,7 +1,8 @@
 -- A programme's rows into the lines of a recording: the whole answer of recording one line, and the bytes afterwards.
 use Prim.Native.Nat.{ℕ, _+_, _*_}
+use mathlib.Core.Path.{_≡_}
 use mathlib.Core.List.{List, [], _∷_}
-use mathlib.Core.Bool.{Bool, cond, not, _&&_}
+use mathlib.Core.Bool.{Bool, true, cond, not, _&&_}
 use lib.ListN.{length}
 use lib.Dec.{ltb, eqb}
 use Rattle.refusal.specs.declared.Refusal.{Refusal}
@@ -80,3 +81,11 @@ lineBytesOf w row = bytesOf (lineOf (dueAtWalk w) (rowSamples row))
 -- the line's bytes afterwards: "nothing of that line is written" where it is refused
 unfoldable pub lineBytesAfter : Walk → List ℕ → List ℕ → List ℕ
 lineBytesAfter w row before = cond (eqb (recordRefusal w row (length before) .number) 0) (lineBytesOf w row) before
+
+-- what a line that is recorded was given
+pub record Recordable (w : Walk) (row : List ℕ) (room : ℕ) : Type 0 where
+  pub walk : walkRefusal w .number ≡ 0
+  pub whole : room ≡ 2 * lineLength (systemOf (w .system))
+  pub long : takesRow w ≡ true → length row ≡ rowLength
+  pub spare : takesRow w ≡ true → spareRefusal row .number ≡ 0
+  pub samples : takesRow w ≡ true → sampleRefusal (dueAtWalk w) (rowSamples row) .number ≡ 0

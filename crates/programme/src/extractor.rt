@@ -6,11 +6,19 @@ ghost use Rattle.line.specs.Samples.{activeLength};
 ghost use Rattle.lent.specs.Bytes.{wordsOf};
 ghost use Rattle.v210.specs.Row.{rowLength, packedOf};
 ghost use Rattle.programme.specs.Extract.{extractedOf, rowAfterLine};
+ghost use Rattle.programme.specs.Extraction.{extractionOf, rowAfterNext};
 use crate::takes_row;
+use confirmation::Run;
 use line::ACTIVE_LENGTH;
 use reader::Judgement;
 use refusal::Refusal;
 use system::Walk;
+
+// A run after a line's bytes, and whether they gave a row.
+pub struct Extraction {
+    pub run: Run,
+    pub gives: bool,
+}
 
 // Packs an active part's bytes into a row, by way of room for its words.
 fn pack_in(active: &[u8], part: &mut [u16], row: &mut [u8])
@@ -71,4 +79,28 @@ pub fn extract(walk: Walk, bytes: &[u8], row: &mut [u8]) -> Judgement
     let start = size - 2 * ACTIVE_LENGTH;
     pack_active(&bytes[start..size], row);
     judgement
+}
+
+// Extracting as a run in steps: the run after these bytes, a line's or what is left at the end, as its next line, and whether they gave the
+// row. A run that has ended stays as it is.
+pub fn extract_next(run: Run, bytes: &[u8], row: &mut [u8]) -> Extraction
+    ensures answer { λ r. ⌜ r ≡ extractionOf run (now (bytes .entry)) (length (now (row .entry))) ⌝ }
+    ensures row { λ r. ⌜ now (row .exit) ≡ rowAfterNext run (now (bytes .entry)) (now (row .entry)) ⌝ }
+{
+    if run.number != 0 {
+        return Extraction { run, gives: false };
+    }
+    let judgement = extract(run.walk, bytes, row);
+    let walk = judgement.walk;
+    let next = Run {
+        system: run.system,
+        start: run.start,
+        walk,
+        number: judgement.number,
+        place: judgement.place,
+    };
+    Extraction {
+        run: next,
+        gives: judgement.number == 0 && takes_row(run.walk),
+    }
 }

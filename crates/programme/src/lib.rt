@@ -1,9 +1,13 @@
 // Programmes in and out of recordings, a line at a time: v210 rows into lines as bytes, and back.
 mod extractor;
 mod recorder;
+mod tape;
 
+pub use extractor::Extraction;
 pub use extractor::extract;
+pub use extractor::extract_next;
 pub use recorder::record;
+pub use tape::Tape;
 ghost use mathlib.Core.Path.{_≡_};
 ghost use Rattle.programme.specs.Record.{dueAtWalk, takesRow, endsFrame, endsPiece, framesLines, pieceLines};
 use line::Due;
@@ -27,7 +31,8 @@ pub fn takes_row(walk: Walk) -> bool
     !due.v
 }
 
-// Whether, after the last row, the line that a walk awaits belongs to a frame that has begun: its V is 1, and it is not line 1.
+// Whether, after the last row, the line that a walk awaits belongs to a frame that has begun: a line was written, this one's V is 1, and it
+// is not line 1.
 pub fn ends_frame(walk: Walk) -> bool
     ensures { λ r. ⌜ r ≡ endsFrame walk ⌝ }
 {
