@@ -15,7 +15,7 @@ use Rattle.refusal.proofs.Cases.{by-test}
 use Rattle.system.specs.declared.Walk.{Walk}
 use Rattle.system.specs.Figures.{lineLength, systemOf}
 use Rattle.system.specs.Walk.{mostLines, walkRefusal, freshWalk, freshOf, advancedOf}
-use Rattle.system.proofs.Laws.{Good, accepted-good, fresh-accepted}
+use Rattle.system.proofs.Laws.{Good, accepted-good, good-accepted, fresh-accepted, walk-many-lines}
 use Rattle.line.specs.Samples.{Samples}
 use Rattle.line.specs.Fit.{Measured}
 use Rattle.reader.specs.declared.Judgement.{Judgement}
@@ -26,13 +26,13 @@ use Rattle.lent.proofs.Judged.{judged-walk, judged-count}
 use Rattle.lent.proofs.Theorems.{bytes-as-words}
 use Rattle.confirmation.specs.declared.Run.{Run}
 use Rattle.confirmation.specs.Run.{headerLength, headerSystem, headerStart, begunOf, lineBytes, judgedNext, bodyOf, confirmedOf}
-use Rattle.confirmation.proofs.Nexts.{next-line-bytes}
-use Rattle.confirmation.proofs.Bodies.{line-has-bytes, body-ended, body-none, body-next}
+use Rattle.confirmation.proofs.Nexts.{endedWith, next-line-bytes}
+use Rattle.confirmation.proofs.Bodies.{line-has-bytes, body-ended, body-none, body-next, body-last, body-barred}
 use Rattle.recording.specs.Recording.{Recording, end, next, lineAfterAll, TwoInverted}
 use Rattle.recording.specs.Play.{readAnswer, readBuffers, Played, stoppedBy, play}
 use Rattle.recording.specs.Confirmed.{Holds}
 use Rattle.recording.proofs.OneLine.{measured-accepted, buffers-measured, answered-accepted}
-use Rattle.recording.proofs.Theorems.{fresh, blank, blank-measured, recording-reads-back, two-inverted-refused, read-through-is-recording}
+use Rattle.recording.proofs.Theorems.{fresh, line-after-in, few, blank, blank-measured, recording-reads-back, two-inverted-refused, read-through-is-recording}
 
 -- every line has so many bytes
 abbrev Each : ℕ → List (List ℕ) → Type 0
@@ -239,3 +239,37 @@ confirmed-is-recording bytes z =
     let read = read-through-is-recording system start hf (map wordsOf lines) blank blank-measured accepted in
     let rec = subst (Recording system start (read .0) (map wordsOf lines)) altered (read .1) in
     (hf, lines, holds, read .0, rec, omega (arith, as-many rec, length-map lines wordsOf, cut .room (omega arith)))
+
+-- ---- bytes behind a recording
+module _ {bytes rest : List ℕ} {system start altered : ℕ} {ps : List Samples} {lines : List (List ℕ)} (hf : freshOf system start .number ≡ 0)
+    (holds : Holds bytes system start lines rest) (rec : Recording system start ps (map wordsOf lines) altered) where
+  -- the walk behind it
+  abbrev reached : Walk
+  reached = record { system = system; line = lineAfterAll system start ps; lines = length ps; repairs = altered }
+
+  -- the run goes on there with the bytes that are left
+  left : length ps ≤ mostLines → confirmedOf bytes ≡ bodyOf (goingOn system start reached) rest
+  left hn =
+      confirmed-plays hf holds
+      ∙ ap (λ (p : Played). bodyOf (runAfter system start p) rest) (recording-reads-back hf rec hn blank blank-measured)
+
+  pub trailing-refused : length ps < mostLines → 0 < length rest → length rest < lineBytes reached
+      → confirmedOf bytes ≡ record { system = system; start = start; walk = reached; number = 3; place = 0 }
+  unfolding judgedNext
+  trailing-refused hn some short =
+      let f = fresh system start hf in
+      let good : Good reached = record { system = f .a-system; line = line-after-in system start ps (f .a-line); lines = hn; repairs = few rec } in
+      let stands : walkRefusal reached .number ≡ 0 = ap (λ (r : Refusal). r .number) (good-accepted reached good) in
+      left (omega arith)
+      ∙ body-last (goingOn system start reached) rest refl (omega arith) (omega arith)
+      ∙ ap (λ (j : Judgement). runAfter system start (stoppedBy j)) (judged-count reached rest stands (λ e. omega arith))
+
+  pub past-limit-refused : length ps ≡ mostLines → 0 < length rest
+      → confirmedOf bytes ≡ record { system = system; start = start; walk = reached; number = 4; place = 0 }
+  past-limit-refused hn some =
+      let f = fresh system start hf in
+      let four = walk-many-lines reached (f .a-system) (line-after-in system start ps (f .a-line)) (omega arith) in
+      let barred : walkRefusal reached .number ≡ 0 → ⊥ = λ z. omega (arith, ap (λ (r : Refusal). r .number) four) in
+      left (omega arith)
+      ∙ body-barred (goingOn system start reached) rest refl (omega arith) barred
+      ∙ ap (endedWith (goingOn system start reached)) four

@@ -11,3 +11,7 @@ pub mod RecordedLines
 pub mod ExtractedLines
 pub mod Programme
 pub mod Row
+pub mod Struck
+pub mod TapedLines
+pub mod TakenRows
+pub mod Filters

@@ -4,9 +4,11 @@ use mathlib.Core.Path.{_≡_, refl, sym, ap, subst, _∙_}
 use mathlib.Core.List.{List, [], _∷_}
 use mathlib.Core.Bool.{true, false}
 use native.Mathlib.Omega.{arith}
+use lib.Dec.{eqb}
 use lib.ListN.{length, getD}
-use Rattle.timing.specs.Code.{correctionOf}
-use Rattle.timing.specs.Report.{codeReportOf, cleanReport}
+use Rattle.refusal.proofs.Cases.{by-test}
+use Rattle.timing.specs.Code.{legalOf, sevenOf, distanceOf, correctionOf}
+use Rattle.timing.specs.Report.{codeReportOf, bitTold, cleanReport}
 use Rattle.timing.proofs.Laws.{one-repair}
 use Rattle.system.specs.declared.Walk.{Walk}
 use Rattle.system.specs.Figures.{lineLength, savOffset, vOf, systemOf}
@@ -16,14 +18,19 @@ use Rattle.line.specs.Samples.{Samples, samplesOf}
 use Rattle.line.specs.Fit.{Measured}
 use Rattle.line.specs.Damage.{Damaged, toldOf}
 use Rattle.line.proofs.Images.{repairsAt, undamaged}
+use Rattle.reader.specs.declared.Judgement.{Judgement}
 use Rattle.reader.specs.Judge.{acceptedAt, refusedAt}
 use Rattle.writer.specs.Write.{writeRefusal, lineAfter}
 use Rattle.writer.proofs.Theorems.{accepted-writes-the-line}
-use Rattle.recording.specs.Recording.{TwoInverted}
+use Rattle.recording.specs.Recording.{TwoInverted, invertedBit}
 use Rattle.recording.specs.Play.{readAnswer, readBuffers}
 use Rattle.recording.proofs.OneLine.{Accepted, answered-accepted}
 use Rattle.recording.proofs.Lines.{line-read, line-accepted, reported, clean-reported, samples-returned}
 use Rattle.recording.proofs.Theorems.{writable, image}
+
+told-bit : (fvh read : ℕ) → bitTold (toldOf fvh read) ≡ invertedBit fvh read
+told-bit fvh read =
+    by-test (eqb (distanceOf (sevenOf read) (legalOf fvh)) 0) (λ z. simp z) (λ n. simp n)
 
 module _ (w : Walk) (good : Good w) (b : Samples) (m : Measured b) where
   -- A line that the writer left, read with at most one of the seven bits of each code inverted and low bits at will: accepted, the report
@@ -45,6 +52,20 @@ module _ (w : Walk) (good : Good w) (b : Samples) (m : Measured b) where
         line-read w good b m p buffer read eav sav size written low dam whole he hs
             ∙ ap (acceptedAt w) (reported w good b m p buffer read eav sav size written low dam whole he hs),
         samples-returned w good b m p buffer read eav sav size written low dam whole he hs,
+      )
+
+  -- The same in the document's values: of each code 0, or the number of the inverted bit, is told.
+  pub damaged-line-bits : (p : Samples) (buffer read : List ℕ) (eav sav : ℕ)
+      → writeRefusal (w .system) (w .line) p (length buffer) .number ≡ 0
+      → Damaged (dueOf (systemOf (w .system)) (w .line)) (lineAfter (w .system) (w .line) p buffer) read eav sav → eav ≤ 1 → sav ≤ 1
+      → (bitTold (readAnswer w b read .report .eav) ≡ invertedBit (flagsOf (dueOf (systemOf (w .system)) (w .line)) true) (getD read 3 0))
+      × (bitTold (readAnswer w b read .report .sav)
+      ≡ invertedBit (flagsOf (dueOf (systemOf (w .system)) (w .line)) false) (getD read (savOffset (systemOf (w .system)) + 3) 0))
+  damaged-line-bits p buffer read eav sav written dam he hs =
+      let answer = damaged-line-reads-back p buffer read eav sav written dam he hs .0 in
+      let d = dueOf (systemOf (w .system)) (w .line) in (
+        ap (λ (j : Judgement). bitTold (j .report .eav)) answer ∙ told-bit (flagsOf d true) (getD read 3 0),
+        ap (λ (j : Judgement). bitTold (j .report .sav)) answer ∙ told-bit (flagsOf d false) (getD read (savOffset (systemOf (w .system)) + 3) 0),
       )
 
   -- Reading back a written line: accepted, both codes told as clean, and the samples are the written ones.

@@ -1,7 +1,8 @@
 -- The statements of specs/Promise hold: the theorems under their statements' names. Assumes nothing.
-use Rattle.recording.specs.Promise.{ReadsBack, NeverCoincide, TwoInvertedStops, NothingElse, Confirms, RefusesTwoInverted, ConfirmsNothingElse}
+pub use Rattle.recording.proofs.Struck.{two-inverted-met, recording-met}
+use Rattle.recording.specs.Promise.{ReadsBack, NeverCoincide, TwoInvertedStops, NothingElse, Confirms, RefusesTwoInverted, ConfirmsNothingElse, TrailingBytes, BytePastLimit}
 use Rattle.recording.proofs.Theorems.{recording-reads-back, damaged-never-coincide, two-inverted-refused, read-through-is-recording}
-use Rattle.recording.proofs.Confirmed.{recording-confirmed, two-inverted-not-confirmed, confirmed-is-recording}
+use Rattle.recording.proofs.Confirmed.{recording-confirmed, two-inverted-not-confirmed, confirmed-is-recording, trailing-refused, past-limit-refused}
 
 pub reads-back : ReadsBack
 reads-back system start altered ps reads buffers hf m rec few = recording-reads-back hf rec few buffers m
@@ -24,3 +25,9 @@ refuses-two-inverted bytes rest bad system start altered place ps p lines hf hol
 
 pub confirms-nothing-else : ConfirmsNothingElse
 confirms-nothing-else = confirmed-is-recording
+
+pub trailing-bytes-refused : TrailingBytes
+trailing-bytes-refused bytes rest system start altered ps lines hf holds rec few some short = trailing-refused hf holds rec few some short
+
+pub byte-past-limit-refused : BytePastLimit
+byte-past-limit-refused bytes rest system start altered ps lines hf holds rec full some = past-limit-refused hf holds rec full some

@@ -27,9 +27,9 @@ use Rattle.writer.proofs.Places.{accepted-inside}
 use Rattle.writer.proofs.Theorems.{written-samples-fit, accepted-writes-the-line}
 use Rattle.lent.specs.Bytes.{wordsOf, bytesOf}
 use Rattle.lent.proofs.Bytes.{bytes-length, words-back}
-use Rattle.programme.specs.Record.{takesRow, rowSamples, recordRefusal, recordedOf, lineBytesOf, lineBytesAfter}
+use Rattle.programme.specs.Record.{takesRow, rowSamples, recordRefusal, recordedOf, lineBytesOf, lineBytesAfter, Recordable}
 use Rattle.programme.proofs.Records.{row-measured}
-use Rattle.programme.proofs.RecordTheorems.{Recordable, record-accepted, recorded-walk}
+use Rattle.programme.proofs.RecordTheorems.{record-accepted, recorded-walk}
 use Rattle.recording.specs.Recording.{Recording, end, next, pictures}
 use Rattle.recording.specs.Programme.{Recorded, rowOf, Whole}
 use Rattle.recording.specs.Programme.{end as no-line, next as one-line}
@@ -59,11 +59,11 @@ module _ (w : Walk) (row buffer : List ℕ) (accepted : recordedOf w row (length
   good : Good w
   good = accepted-good w (fit-to-record .walk)
 
-  walk-after : recordedOf w row (length buffer) .walk ≡ advancedOf w cleanReport
+  pub walk-after : recordedOf w row (length buffer) .walk ≡ advancedOf w cleanReport
   walk-after = recorded-walk w row buffer none-refused .0
 
   -- the line that is left
-  line-left : lineBytesAfter w row buffer ≡ bytesOf (lineOf due (rowSamples row))
+  pub line-left : lineBytesAfter w row buffer ≡ bytesOf (lineOf due (rowSamples row))
   unfolding lineBytesOf
   line-left = recorded-walk w row buffer none-refused .1
 

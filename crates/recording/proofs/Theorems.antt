@@ -99,11 +99,11 @@ fresh system start e =
     never n positive q = positive (sym q ∙ e)
 
 -- the walk after a recording is one that refuses no line, as long as there is room for one more
-line-after-in : (system line : ℕ) (ps : List Samples) → isLine system line ≡ true → isLine system (lineAfterAll system line ps) ≡ true
+pub line-after-in : (system line : ℕ) (ps : List Samples) → isLine system line ≡ true → isLine system (lineAfterAll system line ps) ≡ true
 line-after-in system line [] h = h
 line-after-in system line (p ∷ ps) h = line-after-in system (nextLine (systemOf system) line) ps (next-line-in system line h)
 
-few : {system line altered : ℕ} {ps : List Samples} {reads : List (List ℕ)} → Recording system line ps reads altered → altered ≤ 2 * length ps
+pub few : {system line altered : ℕ} {ps : List Samples} {reads : List (List ℕ)} → Recording system line ps reads altered → altered ≤ 2 * length ps
 few end = omega arith
 few (next buffer written dam he hs more) = omega (arith, few more)
 
@@ -223,12 +223,13 @@ goes-on w b read rest z =
 abbrev Image : Walk → List (List ℕ) → Played → Type 0
 Image w reads r =
     (ps : List Samples) × (k : ℕ) × Recording (w .system) (w .line) ps reads k × (r .walk .repairs ≡ w .repairs + k)
-    × (r .pictures ≡ pictures (w .system) (w .line) ps)
+    × (r .pictures ≡ pictures (w .system) (w .line) ps) × (w .lines + length ps ≤ mostLines)
 
-is-image : (w : Walk) (reads : List (List ℕ)) (b : Samples) → Measured b → play w b reads .number ≡ 0 → Image w reads (play w b reads)
+is-image : (w : Walk) (reads : List (List ℕ)) (b : Samples) → Measured b → w .lines ≤ mostLines → play w b reads .number ≡ 0
+    → Image w reads (play w b reads)
 unfolding play
-is-image w [] b m z = ([], 0, end, omega arith, refl)
-is-image w (read ∷ rest) b m z =
+is-image w [] b m few z = ([], 0, end, omega arith, refl, omega arith)
+is-image w (read ∷ rest) b m few z =
     let answered = goes-on w b read rest z in
     let accepted = answered-accepted w b read answered in
     let p = given w read accepted in
@@ -243,29 +244,31 @@ is-image w (read ∷ rest) b m z =
     let low : size ≤ lineLength (systemOf (w .system)) = omega arith in
     let q = plays-on w (accepted .good) b m p read read e s size written low (image w read accepted) whole he hs rest in
     let i = is-image (at (w .system) (nextLine (systemOf (w .system)) (w .line)) (w .lines + 1) (w .repairs + (e + s))) rest (readBuffers w b read)
-    (buffers-measured w (accepted .good) b m read answered) (ap (λ (r : Played). r .number) (sym q) ∙ z) in (
+    (buffers-measured w (accepted .good) b m read answered) (omega (arith, accepted .good .lines)) (ap (λ (r : Played). r .number) (sym q) ∙ z) in (
       p ∷ i .0,
       e + s + i .1,
       next read written (image w read accepted) he hs (i .2),
       ap (λ (r : Played). r .walk .repairs) q ∙ i .3 ∙ sums (w .repairs) (e + s) (i .1),
       ap (λ (r : Played). r .pictures) q ∙ ap (λ (l : List Samples). cond v l (p ∷ l)) (i .4),
+      omega (arith, i .5),
     )
   where
     sums : (a b c : ℕ) → a + b + c ≡ a + (b + c)
     sums a b c = omega arith
 
 -- D. Nothing else is ever confirmed: lines that are read through are such an image of the recording that the writer gives for the samples
--- returned, and repairs are its altered codes.
+-- returned, of at most 10,000,000 lines, and repairs are its altered codes.
 pub read-through-is-recording : (system start : ℕ) → freshOf system start .number ≡ 0 → (reads : List (List ℕ)) (buffers : Samples)
     → Measured buffers → play (freshOf system start .walk) buffers reads .number ≡ 0
     → (ps : List Samples) × Recording system start ps reads (play (freshOf system start .walk) buffers reads .walk .repairs)
-    × (play (freshOf system start .walk) buffers reads .pictures ≡ pictures system start ps)
+    × (play (freshOf system start .walk) buffers reads .pictures ≡ pictures system start ps) × (length ps ≤ mostLines)
 read-through-is-recording system start hf reads b m z =
     let f = fresh system start hf in
-    let i = is-image (at system start 0 0) reads b m (ap (λ (w : Walk). play w b reads .number) (sym (f .walk)) ∙ z) in
+    let i = is-image (at system start 0 0) reads b m (omega arith) (ap (λ (w : Walk). play w b reads .number) (sym (f .walk)) ∙ z) in
     let k : i .1 ≡ play (freshOf system start .walk) b reads .walk .repairs =
     sym (zero-add (i .1)) ∙ sym (i .3) ∙ ap (λ (w : Walk). play w b reads .walk .repairs) (sym (f .walk)) in (
       i .0,
       subst (λ (n : ℕ). Recording system start (i .0) reads n) k (i .2),
       ap (λ (w : Walk). play w b reads .pictures) (f .walk) ∙ i .4,
+      omega (arith, i .5),
     )

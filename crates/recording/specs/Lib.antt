@@ -5,3 +5,4 @@ pub mod Confirmed
 pub mod Promise
 pub mod Programme
 pub mod Row
+pub mod Filters

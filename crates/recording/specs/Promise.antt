@@ -1,16 +1,19 @@
 -- Demand 3 as statements: what the product exists for. Each is proved under the name that stands behind it.
-use Prim.Native.Nat.{ℕ, _<_, _≤_}
+use Prim.Native.Nat.{ℕ, _+_, _*_, _<_, _≤_}
 use mathlib.Core.Path.{_≡_}
 use mathlib.Core.List.{List, [], _∷_, _++_, map}
+use lib.Count.{ones}
 use lib.ListN.{length}
 use Rattle.system.specs.declared.Walk.{Walk}
+use Rattle.system.specs.Figures.{lineLength, savOffset, activeOffset, systemOf, nextLine}
 use Rattle.system.specs.Walk.{mostLines, freshOf}
 use Rattle.line.specs.Samples.{Samples}
 use Rattle.line.specs.Fit.{Measured}
+use Rattle.writer.specs.Write.{writeRefusal, lineAfter}
 use Rattle.lent.specs.Bytes.{wordsOf}
 use Rattle.confirmation.specs.declared.Run.{Run}
 use Rattle.confirmation.specs.Run.{headerSystem, headerStart, confirmedOf}
-use Rattle.recording.specs.Recording.{Recording, TwoInverted, pictures, lineAfterAll}
+use Rattle.recording.specs.Recording.{Recording, TwoInverted, AgreeUpTo, struckLine, pictures, lineAfterAll}
 use Rattle.recording.specs.Play.{Played, play}
 use Rattle.recording.specs.Confirmed.{Holds}
 
@@ -47,13 +50,34 @@ TwoInvertedStops =
     → _≡_ {A = Played} (play (freshOf system start .walk) buffers (reads ++ (read ∷ rest)))
     (record { pictures = pictures system start ps; number = 8; place = place; walk = walkAfter system start ps altered })
 
--- D (`nothing-else`). Lines that are read through are such a recording of the samples returned, and repairs are its altered codes.
+-- What C asks for can be met (`two-inverted-met`): every line that can be written, struck in two bits of its EAV, or in two bits of its SAV
+-- and at most one of its EAV, any low bits, and anything behind that code.
+abbrev pub TwoInvertedMet : Type 0
+TwoInvertedMet =
+    (system line : ℕ) (p : Samples) (buffer : List ℕ) (eav sav : ℕ) (low : ℕ → ℕ) (read : List ℕ)
+    → writeRefusal system line p (length buffer) .number ≡ 0 → eav < 128 → sav < 128 → ((i : ℕ) → low i < 4)
+    → length read ≡ length (lineAfter system line p buffer)
+    → (ones eav ≡ 2 → AgreeUpTo 4 read (struckLine system line p buffer eav sav low) → TwoInverted system line p read 3)
+    × (ones eav ≤ 1 → ones sav ≡ 2 → AgreeUpTo (activeOffset (systemOf system)) read (struckLine system line p buffer eav sav low)
+    → TwoInverted system line p read (savOffset (systemOf system) + 3))
+
+-- What A asks for can be met (`recording-met`): a recording goes on with every line that can be written, struck in at most one bit of each
+-- code, any low bits, before it.
+abbrev pub RecordingMet : Type 0
+RecordingMet =
+    (system line altered : ℕ) (p : Samples) (ps : List Samples) (reads : List (List ℕ)) (buffer : List ℕ) (eav sav : ℕ) (low : ℕ → ℕ)
+    → writeRefusal system line p (length buffer) .number ≡ 0 → eav < 128 → sav < 128 → ((i : ℕ) → low i < 4) → ones eav ≤ 1 → ones sav ≤ 1
+    → Recording system (nextLine (systemOf system) line) ps reads altered
+    → Recording system line (p ∷ ps) (struckLine system line p buffer eav sav low ∷ reads) (ones eav + ones sav + altered)
+
+-- D (`nothing-else`). Lines that are read through are such a recording of the samples returned, of at most 10,000,000 lines, and repairs are
+-- its altered codes.
 abbrev pub NothingElse : Type 0
 NothingElse =
     (system start : ℕ) (reads : List (List ℕ)) (buffers : Samples) → freshOf system start .number ≡ 0 → Measured buffers
     → play (freshOf system start .walk) buffers reads .number ≡ 0
     → (ps : List Samples) × Recording system start ps reads (play (freshOf system start .walk) buffers reads .walk .repairs)
-    × (play (freshOf system start .walk) buffers reads .pictures ≡ pictures system start ps)
+    × (play (freshOf system start .walk) buffers reads .pictures ≡ pictures system start ps) × (length ps ≤ mostLines)
 
 -- A of the confirming program (`confirms`).
 abbrev pub Confirms : Type 0
@@ -81,3 +105,21 @@ ConfirmsNothingElse =
     × (lines : List (List ℕ)) × Holds bytes (headerSystem bytes) (headerStart bytes) lines []
     × (ps : List Samples) × Recording (headerSystem bytes) (headerStart bytes) ps (map wordsOf lines) (confirmedOf bytes .walk .repairs)
     × (length ps ≤ mostLines)
+
+-- "Trailing bytes short of a line, or of a word, are refusal 3, place 0", with what was read before (`trailing-bytes-refused`).
+abbrev pub TrailingBytes : Type 0
+TrailingBytes =
+    (bytes rest : List ℕ) (system start altered : ℕ) (ps : List Samples) (lines : List (List ℕ)) → freshOf system start .number ≡ 0
+    → Holds bytes system start lines rest → Recording system start ps (map wordsOf lines) altered → length ps < mostLines
+    → 0 < length rest → length rest < 2 * lineLength (systemOf system)
+    → _≡_ {A = Run} (confirmedOf bytes)
+    (record { system = system; start = start; walk = walkAfter system start ps altered; number = 3; place = 0 })
+
+-- "but any byte after 10,000,000 lines is refusal 4" (`byte-past-limit-refused`).
+abbrev pub BytePastLimit : Type 0
+BytePastLimit =
+    (bytes rest : List ℕ) (system start altered : ℕ) (ps : List Samples) (lines : List (List ℕ)) → freshOf system start .number ≡ 0
+    → Holds bytes system start lines rest → Recording system start ps (map wordsOf lines) altered → length ps ≡ mostLines
+    → 0 < length rest
+    → _≡_ {A = Run} (confirmedOf bytes)
+    (record { system = system; start = start; walk = walkAfter system start ps altered; number = 4; place = 0 })

@@ -1,13 +1,15 @@
 -- A recording that was written by the rules, damaged within one bit of each code.
-use Prim.Native.Nat.{ℕ, _+_, _≤_}
+use Prim.Native.Nat.{ℕ, _+_, _<_, _≤_}
 use mathlib.Core.Path.{_≡_}
 use mathlib.Core.List.{List, [], _∷_}
 use mathlib.Core.Bool.{cond}
-use lib.ListN.{length}
+use lib.Dec.{eqb}
+use lib.ListN.{length, getD}
+use Rattle.timing.specs.Code.{legalOf, sevenOf, distanceOf, bitOf}
 use Rattle.system.specs.Figures.{savOffset, activeOffset, vOf, systemOf, nextLine}
 use Rattle.line.specs.Due.{dueOf}
 use Rattle.line.specs.Samples.{Samples}
-use Rattle.line.specs.Damage.{Damaged, DamagedUpTo}
+use Rattle.line.specs.Damage.{Damaged, DamagedUpTo, struck}
 use Rattle.writer.specs.Write.{writeRefusal, lineAfter}
 
 -- Lines in turn from a line number on. Each is what the writer's call leaves in a buffer for samples that it accepts, read with at most
@@ -31,6 +33,19 @@ pictures system line (p ∷ ps) =
 abbrev pub lineAfterAll : ℕ → ℕ → List Samples → ℕ
 lineAfterAll system line [] = line
 lineAfterAll system line (p ∷ ps) = lineAfterAll system (nextLine (systemOf system) line) ps
+
+-- what is to be told of a fourth word that is read where these F, V, H were written, as one number: 0, or the bit that differs, 2 to 8
+abbrev pub invertedBit : ℕ → ℕ → ℕ
+invertedBit fvh read =
+    cond (eqb (distanceOf (sevenOf read) (legalOf fvh)) 0) 0 (bitOf (sevenOf read) (legalOf fvh))
+
+-- the line that the writer leaves, struck: the bits of a mask inverted among the seven of each code, low bits of timing words as told
+abbrev pub struckLine : ℕ → ℕ → Samples → List ℕ → ℕ → ℕ → (ℕ → ℕ) → List ℕ
+struckLine system line p buffer eav sav low = struck (dueOf (systemOf system) line) eav sav low (lineAfter system line p buffer)
+
+-- two lines have the same words before an offset
+abbrev pub AgreeUpTo : ℕ → List ℕ → List ℕ → Type 0
+AgreeUpTo offset one other = (i : ℕ) → i < offset → getD one i 0 ≡ getD other i 0
 
 -- A line of which a code has exactly two of the seven bits inverted, and no earlier code of the line more than one, with the offset of
 -- that code's fourth word. What follows that code in the line is anything.

@@ -1,0 +1,132 @@
+-- Of good rows nothing is refused, as long as there is room for lines: each line is recordable, and at most 625 are written for a row.
+-- Assumes nothing.
+use Prim.Native.Nat.{ℕ, zero, suc, _+_, _*_, _<_, _≤_}
+use mathlib.Core.Path.{_≡_, refl, sym, ap, subst, _∙_}
+use mathlib.Core.List.{List, [], _∷_}
+use mathlib.Core.List.{List·Memᴰ, List·Memᴰ·head, List·Memᴰ·tail}
+use mathlib.Core.Bool.{Bool, true, false, cond, not, true≢false, _&&_}
+use native.Mathlib.Omega.{arith}
+use lib.Dec.{ltb, eqb}
+use lib.ListN.{length}
+use borrow.Author.Tests.{eqb-true, eq-eqb}
+use Rattle.refusal.specs.declared.Refusal.{Refusal}
+use Rattle.refusal.proofs.Cases.{by-test, and-true, not-true}
+use Rattle.timing.specs.Report.{cleanReport}
+use Rattle.system.specs.declared.Walk.{Walk}
+use Rattle.system.specs.Figures.{lineLength, systemOf}
+use Rattle.system.specs.Walk.{mostLines, walkRefusal, advancedOf}
+use Rattle.system.proofs.Laws.{Good, good-accepted}
+use Rattle.reader.specs.declared.Judgement.{Judgement}
+use Rattle.v210.specs.Row.{rowLength}
+use Rattle.programme.specs.declared.tape.Tape.{Tape}
+use Rattle.programme.specs.Record.{takesRow, endsFrame, recordedOf, Recordable}
+use Rattle.programme.specs.Tape.{turnsAt, turnedOf, tapedOf, endsAt, Wrote, onto, endOf, mostTurns, recordRows}
+use Rattle.programme.proofs.Records.{recorded-accepted}
+use Rattle.programme.proofs.RecordTheorems.{recordable-accepted}
+use Rattle.recording.specs.Filters.{GoodRow}
+use Rattle.recording.proofs.TapedLines.{Sound, taped, advanced, still-sound, turned-walk, sound-there, line-there, next-tape}
+
+-- what a row is given as, where the awaited line takes it
+abbrev Given : Walk → List ℕ → Type 0
+Given w row = takesRow w ≡ true → GoodRow row
+
+module _ (system room : ℕ) (size : room ≡ 2 * lineLength (systemOf system)) where
+  -- a tape that goes on, with no repairs and at most so many lines
+  pub record Ready (bound : ℕ) (t : Tape) : Type 0 where
+    pub sound : Sound system t
+    pub number : t .number ≡ 0
+    pub repairs : t .walk .repairs ≡ 0
+    pub lines : t .walk .lines ≤ bound
+
+  weaker : {bound more : ℕ} {t : Tape} → bound ≤ more → Ready bound t → Ready more t
+  weaker l r = record { sound = r .sound; number = r .number; repairs = r .repairs; lines = omega (arith, r .lines) }
+
+  -- ---- one line
+  module _ (bound : ℕ) (t : Tape) (row : List ℕ) (r : Ready bound t) (low : bound < mostLines) (given : Given (t .walk) row) where
+    good : Good (t .walk)
+    good =
+        record {
+          system = r .sound .a-system;
+          line = r .sound .a-line;
+          lines = omega (arith, r .lines);
+          repairs = omega (arith, r .repairs);
+        }
+
+    recordable : Recordable (t .walk) row room
+    recordable =
+        record {
+          walk = ap (λ (x : Refusal). x .number) (good-accepted (t .walk) good);
+          whole = size ∙ ap (λ (n : ℕ). 2 * lineLength (systemOf n)) (sym (r .sound .same));
+          long = λ takes. given takes .long;
+          spare = λ takes. given takes .spare;
+          samples = λ takes. given takes .samples _;
+        }
+
+    accepted : tapedOf t row room .number ≡ 0
+    accepted =
+        ap (λ (x : Tape). x .number) (taped t row room (r .number))
+        ∙ ap (λ (j : Judgement). j .number) (recorded-accepted (t .walk) row room (recordable-accepted (t .walk) row room recordable))
+
+    line-on : Ready (bound + 1) (tapedOf t row room)
+    unfolding advancedOf
+    line-on =
+        let w = advanced t row room (r .number) accepted in
+        record {
+          sound = still-sound t row room (r .number) accepted system (r .sound);
+          number = accepted;
+          repairs = ap (λ (v : Walk). v .repairs) w ∙ omega (arith, r .repairs);
+          lines = omega (arith, ap (λ (v : Walk). v .lines) w, r .lines);
+        }
+
+  -- ---- a next recording
+  there : (bound : ℕ) (t : Tape) → Ready bound t → (turns : Bool) → Ready bound (cond turns (turnedOf t) t)
+  there bound t r true =
+      let w = turned-walk system t (r .sound) in
+      record {
+        sound = sound-there system t (r .sound) true;
+        number = line-there system t (r .sound) true .1 ∙ r .number;
+        repairs = ap (λ (v : Walk). v .repairs) w;
+        lines = omega (arith, ap (λ (v : Walk). v .lines) w);
+      }
+  there bound t r false = r
+
+  -- ---- one row
+  row-on : (k bound : ℕ) (t : Tape) (row : List ℕ) (rest : Tape → Wrote) → GoodRow row → bound + k < mostLines → Ready bound t
+      → ((u : Tape) → Ready (bound + k) u → rest u .tape .number ≡ 0) → onto room k t row rest .tape .number ≡ 0
+  unfolding onto
+  row-on zero bound t row rest row-good low r well = well t (weaker (omega arith) r)
+  row-on (suc k) bound t row rest row-good low r well =
+      let turns = turnsAt t in
+      let u = cond turns (turnedOf t) t in
+      let here = there bound t r turns in
+      let v = tapedOf u row room in
+      let on = line-on bound u row here (omega arith) (λ takes. row-good) in
+      ap (λ (x : Tape). x .number) (next-tape turns (t .walk .line) _)
+      ∙ simp (eq-eqb (v .number) 0 (on .number))
+      (by-test (takesRow (u .walk))
+      (λ takes. simp takes (well v (weaker (omega arith) on)))
+      (λ blank. simp blank (row-on k (bound + 1) v row rest row-good (omega arith) on (λ x ready. well x (weaker (omega arith) ready)))))
+
+  -- ---- the end of the last frame
+  end-on : (k bound : ℕ) (t : Tape) → bound + k < mostLines → Ready bound t → endOf room k t .tape .number ≡ 0
+  unfolding endOf endsAt endsFrame
+  end-on zero bound t low r = r .number
+  end-on (suc k) bound t low r =
+      by-test (endsAt t)
+      (λ goes.
+      let frame = and-true (endsFrame (t .walk)) _ (and-true (eqb (t .number) 0) _ goes .1) .0 in
+      let blank = not-true (takesRow (t .walk)) (and-true (ltb 0 (t .walk .lines) && ltb 1 (t .walk .line)) (not (takesRow (t .walk))) frame .1) in
+      simp goes
+      (end-on k (bound + 1) (tapedOf t [] room) (omega arith)
+      (line-on bound t [] r (omega arith) (λ takes. absurd (true≢false (sym takes ∙ blank))))))
+      (λ stays. simp stays (r .number))
+
+  -- ---- all rows
+  pub rows-on : (rows : List (List ℕ)) (bound : ℕ) (t : Tape) → ((row : List ℕ) → List·Memᴰ row rows → GoodRow row)
+      → bound + mostTurns * (length rows + 1) < mostLines → Ready bound t → recordRows room t rows .tape .number ≡ 0
+  unfolding recordRows
+  rows-on [] bound t good-rows low r = end-on mostTurns bound t (omega arith) r
+  rows-on (row ∷ rows) bound t good-rows low r =
+      simp (eq-eqb (t .number) 0 (r .number))
+      (row-on mostTurns bound t row (λ after. recordRows room after rows) (good-rows row (List·Memᴰ·head refl)) (omega arith) r
+      (λ u ready. rows-on rows (bound + mostTurns) u (λ one at. good-rows one (List·Memᴰ·tail at)) (omega arith) ready))

@@ -1,0 +1,256 @@
+-- What a tape writes of rows are recordings of those rows: each line is one that an accepted call of `record` leaves, a next recording begins
+-- with a fresh walk, and within a frame there is always a line that takes the row. Assumes nothing.
+use Prim.Native.Nat.{ℕ, zero, suc, _+_, _*_, _<_, _≤_}
+use mathlib.Core.Path.{_≡_, refl, sym, ap, subst, _∙_}
+use mathlib.Core.List.{List, [], _∷_, _++_, append-nil}
+use mathlib.Core.List.{List·Memᴰ, List·Memᴰ·head, List·Memᴰ·tail}
+use mathlib.Core.Bool.{Bool, true, false, cond, not, _&&_, _||_, true≢false}
+use native.Mathlib.Omega.{arith}
+use lib.Dec.{T, ltb, leb, eqb, le→leb}
+use lib.ListN.{length, getD}
+use borrow.Author.Tests.{eqb-true, eqb-false, eq-eqb, ne-eqb}
+use Rattle.refusal.proofs.Cases.{by-test, and-true, not-true, not-false}
+use Rattle.timing.specs.Report.{cleanReport}
+use Rattle.timing.proofs.Every.{implies, meet, every, lift}
+use Rattle.system.specs.declared.System.{System}
+use Rattle.system.specs.declared.System.the-variants.{Lines525, Lines625}
+use Rattle.system.specs.declared.Walk.{Walk}
+use Rattle.system.specs.declared.Fresh.{Fresh}
+use Rattle.system.specs.Figures.{lineLength, lineCount, vOf, isSystem, systemOf, nextLine}
+use Rattle.system.specs.Walk.{isLine, freshOf, advancedOf}
+use Rattle.system.proofs.Laws.{next-line-in, fresh-accepted, between-first, between-last}
+use Rattle.line.specs.Due.{dueOf}
+use Rattle.line.specs.Samples.{lineOf}
+use Rattle.line.proofs.Damaged.{line-length}
+use Rattle.lent.specs.Bytes.{bytesOf}
+use Rattle.lent.proofs.Bytes.{bytes-length}
+use Rattle.confirmation.specs.Run.{lineBytes}
+use Rattle.reader.proofs.Judged.{judgement-number}
+use Rattle.programme.specs.declared.tape.Tape.{Tape}
+use Rattle.programme.specs.Record.{takesRow, endsFrame, rowSamples, recordedOf, lineBytesOf, lineBytesAfter}
+use Rattle.programme.specs.Tape.{turnsAt, turnedOf, tapedOf, endsAt, Wrote, nothingMore, lineThen, nextFrom, onto, endOf, mostTurns, recordRows}
+use Rattle.programme.proofs.RecordTheorems.{record-accepted}
+use Rattle.recording.specs.Programme.{Recorded}
+use Rattle.recording.specs.Programme.{end as no-line, next as one-line}
+use Rattle.recording.specs.Filters.{Recordings, none, one, AllBytes}
+use Rattle.recording.proofs.RecordedLines.{walk-after, line-left}
+
+-- ---- every frame has a line that takes a row, soon enough
+reaches : ℕ → System → ℕ → Bool
+reaches zero s line = false
+reaches (suc k) s line = not (vOf s line) || reaches k s (nextLine s line)
+
+from-line : System → ℕ → Bool
+from-line s line = implies (leb 1 line) (reaches mostTurns s line)
+
+all-reach : (s : System) → T (every (lineCount s + 1) (from-line s))
+unfolding from-line reaches vOf nextLine
+all-reach Lines525 = tt
+all-reach Lines625 = tt
+
+always : (number line : ℕ) → isLine number line ≡ true → T (reaches mostTurns (systemOf number) line)
+unfolding isLine from-line
+always number line h =
+    let s = systemOf number in
+    meet (leb 1 line) _ (lift (lineCount s + 1) (from-line s) (all-reach s) line (omega (arith, between-last 1 (lineCount s) line h)))
+    (le→leb 1 line (between-first 1 (lineCount s) line h))
+
+-- ---- a tape that stands at a line of its system
+pub record Sound (system : ℕ) (t : Tape) : Type 0 where
+  pub same : t .walk .system ≡ system
+  pub a-system : isSystem (t .walk .system) ≡ true
+  pub a-line : isLine (t .walk .system) (t .walk .line) ≡ true
+
+-- what was written from a tape on: the rows taken in the recording at hand, and those of the recordings behind it
+pub record Splits (system : ℕ) (t : Tape) (w : Wrote) (rows : List (List ℕ)) : Type 0 where
+  pub here : List (List ℕ)
+  pub later : List (List ℕ)
+  pub all : rows ≡ here ++ later
+  pub recorded : Recorded (t .walk) here (w .lines)
+  pub behind : Recordings system (w .more) later
+
+stopped : (system : ℕ) (t : Tape) → Splits system t (nothingMore t) []
+stopped system t = record { here = []; later = []; all = refl; recorded = no-line; behind = none }
+
+-- ---- one line, by way of a buffer of so many bytes
+module _ (t : Tape) (row : List ℕ) (room : ℕ) where
+  abbrev after : Tape
+  after = tapedOf t row room
+
+  line-size : length (lineBytesOf (t .walk) row) ≡ lineBytes (t .walk)
+  unfolding lineBytesOf dueOf
+  line-size =
+      let due = dueOf (systemOf (t .walk .system)) (t .walk .line) in
+      bytes-length (lineOf due (rowSamples row)) ∙ ap (λ (n : ℕ). 2 * n) (line-length due (rowSamples row))
+
+  module _ (z : t .number ≡ 0) where
+    pub taped : after ≡ record { walk = recordedOf (t .walk) row room .walk; most = t .most; number = recordedOf (t .walk) row room .number; place = recordedOf (t .walk) row room .place }
+    unfolding tapedOf
+    taped = simp (eq-eqb _ _ z)
+
+    module _ (accepted : after .number ≡ 0) where
+      -- where the line is accepted the buffer is one of its length
+      fits : room ≡ length (lineBytesOf (t .walk) row)
+      unfolding recordedOf
+      fits =
+          let number = sym (ap (λ (x : Tape). x .number) taped) ∙ accepted in
+          record-accepted (t .walk) row room (judgement-number _ (t .walk) cleanReport number) .whole ∙ sym line-size
+
+      line-accepted : recordedOf (t .walk) row (length (lineBytesOf (t .walk) row)) .number ≡ 0
+      line-accepted =
+          ap (λ (n : ℕ). recordedOf (t .walk) row n .number) (sym fits) ∙ sym (ap (λ (x : Tape). x .number) taped) ∙ accepted
+
+      walk-of : after .walk ≡ recordedOf (t .walk) row (length (lineBytesOf (t .walk) row)) .walk
+      walk-of = ap (λ (x : Tape). x .walk) taped ∙ ap (λ (n : ℕ). recordedOf (t .walk) row n .walk) fits
+
+      pub advanced : after .walk ≡ advancedOf (t .walk) cleanReport
+      advanced = walk-of ∙ walk-after (t .walk) row (lineBytesOf (t .walk) row) line-accepted
+
+      pub still-sound : (system : ℕ) → Sound system t → Sound system after
+      unfolding advancedOf
+      still-sound system s =
+          rw advanced
+          (record { same = s .same; a-system = s .a-system; a-line = next-line-in (t .walk .system) (t .walk .line) (s .a-line) })
+
+      line-before : (system : ℕ) (w : Wrote) (rows : List (List ℕ)) → AllBytes row → Splits system after w rows
+          → Splits system t (lineThen (lineBytesOf (t .walk) row) w) (cond (takesRow (t .walk)) (row ∷ rows) rows)
+      unfolding lineBytesOf
+      line-before system w rows bytes rest =
+          let buffer = lineBytesOf (t .walk) row in
+          let made = one-line row buffer bytes line-accepted (subst (λ (v : Walk). Recorded v (rest .here) (w .lines)) walk-of (rest .recorded)) in
+          record {
+            here = cond (takesRow (t .walk)) (row ∷ rest .here) (rest .here);
+            later = rest .later;
+            all = by-test (takesRow (t .walk)) (λ e. simp e (ap (λ (l : List (List ℕ)). row ∷ l) (rest .all))) (λ e. simp e (rest .all));
+            recorded =
+                subst (λ (l : List ℕ). Recorded (t .walk) (cond (takesRow (t .walk)) (row ∷ rest .here) (rest .here)) (l ∷ w .lines))
+                (line-left (t .walk) row buffer line-accepted) made;
+            behind = rest .behind;
+          }
+
+-- ---- a next recording, where one begins
+module _ (system : ℕ) (t : Tape) (s : Sound system t) where
+  fresh-there : freshOf (t .walk .system) (t .walk .line) ≡ record { number = 0; place = 0; walk = record { system = t .walk .system; line = t .walk .line; lines = 0; repairs = 0 } }
+  fresh-there = fresh-accepted (t .walk .system) (t .walk .line) (s .a-system) (s .a-line)
+
+  pub turned-walk : turnedOf t .walk ≡ record { system = t .walk .system; line = t .walk .line; lines = 0; repairs = 0 }
+  unfolding turnedOf
+  turned-walk = ap (λ (f : Fresh). f .walk) fresh-there
+
+  -- the tape at its next line is as sound, at the same line
+  pub sound-there : (turns : Bool) → Sound system (cond turns (turnedOf t) t)
+  sound-there true = rw turned-walk (record { same = s .same; a-system = s .a-system; a-line = s .a-line })
+  sound-there false = s
+
+  pub line-there : (turns : Bool) → (cond turns (turnedOf t) t .walk .line ≡ t .walk .line) × (cond turns (turnedOf t) t .number ≡ t .number)
+  unfolding turnedOf
+  line-there true = (ap (λ (w : Walk). w .line) turned-walk, refl)
+  line-there false = (refl, refl)
+
+  next-begun : (turns : Bool) (w : Wrote) (rows : List (List ℕ)) → Splits system (cond turns (turnedOf t) t) w rows
+      → Splits system t (nextFrom turns (t .walk .line) w) rows
+  next-begun false w rows rest = rest
+  next-begun true w rows rest =
+      let n : freshOf system (t .walk .line) .number ≡ 0 =
+      ap (λ (k : ℕ). freshOf k (t .walk .line) .number) (sym (s .same)) ∙ ap (λ (f : Fresh). f .number) fresh-there in
+      let at : turnedOf t .walk ≡ freshOf system (t .walk .line) .walk = turned-walk ∙ sym (ap (λ (f : Fresh). f .walk) fresh-there) ∙ ap (λ (k : ℕ). freshOf k (t .walk .line) .walk) (s .same) in
+      record {
+        here = [];
+        later = rows;
+        all = refl;
+        recorded = no-line;
+        behind =
+            subst (Recordings system ((t .walk .line, w .lines) ∷ w .more)) (sym (rest .all))
+            (one (t .walk .line) (rest .here) (w .lines) n (subst (λ (v : Walk). Recorded v (rest .here) (w .lines)) at (rest .recorded)) (rest .behind));
+      }
+
+-- where nothing was refused to the end, what was written are recordings of the rows
+abbrev pub Well : ℕ → Tape → Wrote → List (List ℕ) → Type 0
+Well system t w rows = w .tape .number ≡ 0 → Splits system t w rows
+
+-- the tape at the end is that of what follows
+pub next-tape : (turns : Bool) (start : ℕ) (w : Wrote) → nextFrom turns start w .tape ≡ w .tape
+next-tape true start w = refl
+next-tape false start w = refl
+
+-- ---- one row, at a tape that reaches a line which takes it
+module _ (system room : ℕ) (row : List ℕ) (bytes : AllBytes row) (rows : List (List ℕ)) (rest : Tape → Wrote)
+    (well : (u : Tape) → Sound system u → u .number ≡ 0 → Well system u (rest u) rows) where
+  mutual-line : (k : ℕ) (u : Tape) → Sound system u → u .number ≡ 0 → T (reaches (suc k) (systemOf (u .walk .system)) (u .walk .line))
+      → ((v : Tape) → Sound system v → v .number ≡ 0 → T (reaches k (systemOf (v .walk .system)) (v .walk .line)) → Well system v (onto room k v row rest) (row ∷ rows))
+      → Well system u
+      (cond (eqb (tapedOf u row room .number) 0)
+      (lineThen (lineBytesOf (u .walk) row) (cond (takesRow (u .walk)) (rest (tapedOf u row room)) (onto room k (tapedOf u row room) row rest)))
+      (nothingMore (tapedOf u row room)))
+      (row ∷ rows)
+  unfolding reaches takesRow advancedOf
+  mutual-line k u s z reach more =
+      let v = tapedOf u row room in
+      by-test (eqb (v .number) 0)
+      (λ t.
+      let accepted = eqb-true _ _ t in
+      let sound = still-sound u row room z accepted system s in
+      by-test (vOf (systemOf (u .walk .system)) (u .walk .line))
+      (λ blank. simp (t, blank) (λ end.
+      let there : T (reaches k (systemOf (v .walk .system)) (v .walk .line)) =
+      rw (advanced u row room z accepted) (simp blank at reach) in
+      subst (Splits system u _) (ap (λ (b : Bool). cond (not b) (row ∷ row ∷ rows) (row ∷ rows)) blank)
+      (line-before u row room z accepted system (onto room k v row rest) (row ∷ rows) bytes (more v sound accepted there end))))
+      (λ picture. simp (t, picture) (λ end.
+      subst (Splits system u _) (ap (λ (b : Bool). cond (not b) (row ∷ rows) rows) picture)
+      (line-before u row room z accepted system (rest v) rows bytes (well v sound accepted end)))))
+      (λ f. simp f (λ end. absurd (eqb-false _ _ f end)))
+
+  row-taken : (k : ℕ) (t : Tape) → Sound system t → t .number ≡ 0 → T (reaches k (systemOf (t .walk .system)) (t .walk .line))
+      → Well system t (onto room k t row rest) (row ∷ rows)
+  unfolding onto reaches
+  row-taken zero t s z reach end = absurd reach
+  row-taken (suc k) t s z reach end =
+      let turns = turnsAt t in
+      let u = cond turns (turnedOf t) t in
+      let at = line-there system t s turns in
+      let there : T (reaches (suc k) (systemOf (u .walk .system)) (u .walk .line)) =
+      subst (λ (n : ℕ). T (reaches (suc k) (systemOf n) (u .walk .line))) (s .same ∙ sym (sound-there system t s turns .same))
+      (subst (λ (n : ℕ). T (reaches (suc k) (systemOf (t .walk .system)) n)) (sym (at .0)) reach) in
+      next-begun system t s turns _ (row ∷ rows)
+      (mutual-line k u (sound-there system t s turns) (at .1 ∙ z) there (row-taken k)
+      (sym (ap (λ (x : Tape). x .number) (next-tape turns (t .walk .line) _)) ∙ end))
+
+-- ---- the end of the last frame
+ended-tape : (room k : ℕ) (t : Tape) → endOf room k t .tape .number ≡ 0 → t .number ≡ 0
+unfolding endOf endsAt
+ended-tape room zero t e = e
+ended-tape room (suc k) t e =
+    by-test (eqb (t .number) 0) (λ z. eqb-true _ _ z) (λ n. simp n at e)
+
+frame-ended : (system room k : ℕ) (t : Tape) → Sound system t → Well system t (endOf room k t) []
+unfolding endOf endsAt endsFrame
+frame-ended system room zero t s = λ end. stopped system t
+frame-ended system room (suc k) t s =
+    by-test (endsAt t)
+    (λ goes. simp goes (λ end.
+    let tests = and-true (eqb (t .number) 0) _ goes in
+    let z = eqb-true _ _ (tests .0) in
+    let after = tapedOf t [] room in
+    let accepted = ended-tape room k after end in
+    subst (Splits system t _) (no-row (and-true (endsFrame (t .walk)) _ (tests .1) .0))
+    (line-before t [] room z accepted system (endOf room k after) [] (λ i l. absurd (omega arith))
+    (frame-ended system room k after (still-sound t [] room z accepted system s) end))))
+    (λ stays. simp stays (λ end. stopped system t))
+  where
+    no-row : endsFrame (t .walk) ≡ true → _≡_ {A = List (List ℕ)} (cond (takesRow (t .walk)) ([] ∷ []) []) []
+    no-row e =
+        let w = t .walk in
+        simp (not-true (takesRow w) (and-true (ltb 0 (w .lines) && ltb 1 (w .line)) (not (takesRow w)) e .1))
+
+-- ---- all rows
+pub rows-taped : (system room : ℕ) (rows : List (List ℕ)) (t : Tape) → Sound system t
+    → ((row : List ℕ) → List·Memᴰ row rows → AllBytes row) → Well system t (recordRows room t rows) rows
+unfolding recordRows
+rows-taped system room [] t s bytes = frame-ended system room mostTurns t s
+rows-taped system room (row ∷ rows) t s bytes =
+    by-test (eqb (t .number) 0)
+    (λ z. simp z (row-taken system room row (bytes row (List·Memᴰ·head refl)) rows (λ after. recordRows room after rows)
+    (λ u sound goes. rows-taped system room rows u sound (λ one at. bytes one (List·Memᴰ·tail at))) mostTurns t s (eqb-true _ _ z)
+    (always (t .walk .system) (t .walk .line) (s .a-line))))
+    (λ n. simp n (λ end. absurd (eqb-false _ _ n end)))
