@@ -1,11 +1,15 @@
-// Confirming: reads a recording to its end or its first refusal. All that it decides is in `confirmation`; what comes of reading is up to
-// the system, so no contract can determine it.
-ghost use Prim.Native.Nat.{_*_, _≤_};
+// Confirming: reads a recording to its end or its first refusal. What it decides of a recording is in `confirmation`, and what each turn makes
+// of a read's count and bytes is in the contracts here; what comes of reading is up to the system.
+ghost use mathlib.Core.Path.{_≡_};
+ghost use Prim.Native.Nat.{_*_, _-_, _≤_};
 ghost use lib.ListN.{length};
 ghost use Rattle.system.specs.declared.System.the-variants.{Lines625};
 ghost use Rattle.system.specs.Figures.{lineLength};
+ghost use Rattle.intake.specs.Arrival.{toldOf, WithinRoom};
+ghost use Rattle.confirm.specs.Turn.{reachedOf, turnOf, readOf};
 use confirmation::Run;
 use console::Read;
+use intake::Told;
 
 // How many lines the buffer holds: a whole number, so that no bytes are ever moved. A live pipe's lines are judged as they come.
 const LINES_HELD: usize = 48;
@@ -16,80 +20,87 @@ const ROOM: usize = LINES_HELD * 2 * system::System625::LINE_LENGTH;
 // How many reads pass between two reports of progress.
 const READS_A_REPORT: u64 = 4096;
 
-// The bytes at..have of the buffer are read and not taken yet.
+// A run, where the bytes at..have of the buffer are read and not taken yet; whether reading is done, and whether a failed read ended it.
 struct Ready {
     run: Run,
     at: usize,
     have: usize,
-    is_open: bool,
-    is_failed: bool,
-}
-
-// A run, and the offset in the buffer of the first byte that it has not taken.
-struct Reached {
-    run: Run,
-    at: usize,
+    done: bool,
+    failed: bool,
 }
 
 // Follows the run over the bytes at..have of the buffer.
-fn follow_ready(run: Run, buffer: &[u8], at: usize, have: usize) -> Reached
+fn reach(run: Run, at: usize, have: usize, buffer: &[u8]) -> Ready
     requires { ⌜ (at ≤ have) × (have ≤ length (now buffer)) ⌝ }
-    ensures { λ r. ⌜ r .at ≤ have ⌝ }
+    ensures turn { λ r. ⌜ r ≡ reachedOf run at have (now (buffer .entry)) ⌝ }
+    ensures within { λ r. ⌜ (r .at ≤ r .have) × (r .have ≤ length (now (buffer .entry))) ⌝ }
 {
     let followed = run.follow(&buffer[at..have]);
     let next = followed.run;
-    Reached {
-        run: next,
-        at: at + followed.taken,
-    }
-}
-
-// Reads once and follows the run over what lies ready; at the end of the input, closes the run. A failed read is not the end.
-fn turn(input: i32, run: Run, at: usize, have: usize, buffer: &mut [u8]) -> Ready
-    requires { ⌜ (at ≤ have) × (have ≤ length (now buffer)) ⌝ }
-    ensures { λ r. ⌜ (r .at ≤ r .have) × (r .have ≤ length (now (buffer .exit))) ⌝ }
-{
-    let size = buffer.len();
-    let got = libc::read(input, &mut buffer[have..]);
-    let more = io::count(got, &buffer[have..]);
-    if more == 0 {
-        if got < 0 {
-            return Ready {
-                run,
-                at,
-                have,
-                is_open: false,
-                is_failed: true,
-            };
-        }
-        let closed = run.close(&buffer[at..have]);
-        return Ready {
-            run: closed,
-            at,
-            have,
-            is_open: false,
-            is_failed: false,
-        };
-    }
-    let full = have + more;
-    let reached = follow_ready(run, buffer, at, full);
-    let next = reached.run;
-    if reached.at == size {
+    let reached = at + followed.taken;
+    if reached == buffer.len() {
         return Ready {
             run: next,
             at: 0,
             have: 0,
-            is_open: next.number == 0,
-            is_failed: false,
+            done: next.number != 0,
+            failed: false,
         };
     }
     Ready {
         run: next,
-        at: reached.at,
-        have: full,
-        is_open: next.number == 0,
-        is_failed: false,
+        at: reached,
+        have,
+        done: next.number != 0,
+        failed: false,
     }
+}
+
+// What a turn makes of what a read told, behind the bytes at..have of the buffer. A failed read is not the end of the input.
+fn turned(run: Run, at: usize, have: usize, told: Told, buffer: &[u8]) -> Ready
+    requires { ⌜ (at ≤ have) × (have ≤ length (now buffer)) × WithinRoom told (length (now buffer) - have) ⌝ }
+    ensures turn { λ r. ⌜ r ≡ turnOf run at have told (now (buffer .entry)) ⌝ }
+    ensures within { λ r. ⌜ (r .at ≤ r .have) × (r .have ≤ length (now (buffer .entry))) ⌝ }
+{
+    match told {
+        Told::Failed => Ready {
+            run,
+            at,
+            have,
+            done: true,
+            failed: true,
+        },
+        Told::Ended => {
+            let closed = run.close(&buffer[at..have]);
+            Ready {
+                run: closed,
+                at,
+                have,
+                done: true,
+                failed: false,
+            }
+        }
+        Told::Bytes { count } => reach(run, at, have + count, buffer),
+    }
+}
+
+// The same, given the read's count.
+fn counted(run: Run, at: usize, have: usize, got: isize, buffer: &[u8]) -> Ready
+    requires { ⌜ (at ≤ have) × (have ≤ length (now buffer)) ⌝ }
+    ensures turn { λ r. ⌜ r ≡ turnOf run at have (toldOf got (length (now (buffer .entry)) - have)) (now (buffer .entry)) ⌝ }
+    ensures within { λ r. ⌜ (r .at ≤ r .have) × (r .have ≤ length (now (buffer .entry))) ⌝ }
+{
+    let told = intake::tells(got, &buffer[have..]);
+    turned(run, at, have, told, buffer)
+}
+
+// Reads once behind the bytes at..have of the buffer.
+fn turn(input: i32, run: Run, at: usize, have: usize, buffer: &mut [u8]) -> Ready
+    requires { ⌜ (at ≤ have) × (have ≤ length (now buffer)) ⌝ }
+    ensures { λ r. ⌜ (r .at ≤ r .have) × (r .have ≤ length (now (buffer .exit))) ⌝ }
+{
+    let got = libc::read(input, &mut buffer[have..]);
+    counted(run, at, have, got, buffer)
 }
 
 // Follows the run to the end of the input or its first refusal. A proved loop has to end, and nothing says that the input does: the
@@ -99,11 +110,11 @@ fn follow(input: i32, run: Run, buffer: &mut [u8], is_shown: bool) -> Ready {
         run,
         at: 0,
         have: 0,
-        is_open: true,
-        is_failed: false,
+        done: false,
+        failed: false,
     };
     let mut turns = u64::MAX;
-    while turns > 0 && ready.is_open {
+    while turns > 0 && !ready.done {
         ready = turn(input, ready.run, ready.at, ready.have, buffer);
         turns -= 1;
         if is_shown && turns % READS_A_REPORT == 0 {
@@ -114,8 +125,21 @@ fn follow(input: i32, run: Run, buffer: &mut [u8], is_shown: bool) -> Ready {
     ready
 }
 
+// What confirming comes to. A failed read is no end: a shorter file must not be confirmed in its place.
+fn come_to(ready: Ready) -> Read
+    ensures { λ r. ⌜ r ≡ readOf ready ⌝ }
+{
+    if ready.failed {
+        return Read::unread(ready.run);
+    }
+    if ready.done {
+        return Read::ended(ready.run);
+    }
+    Read::unread(ready.run)
+}
+
 // The lines of a recording behind its header, to the end of the input or the first refusal, by way of a buffer that holds LINES_HELD of
-// the longer lines and is cut to a whole number of the run's. A failed read is no end: a shorter file must not be confirmed in its place.
+// the longer lines and is cut to a whole number of the run's.
 fn confirm_by(input: i32, run: Run, buffer: &mut [u8]) -> Read
     requires { ⌜ 96 * lineLength Lines625 ≤ length (now buffer) ⌝ }
 {
@@ -125,11 +149,7 @@ fn confirm_by(input: i32, run: Run, buffer: &mut [u8]) -> Read
     if is_shown {
         console::end_show();
     }
-    let after = reached.run;
-    if reached.is_failed {
-        return Read::unread(after);
-    }
-    Read::ended(after)
+    come_to(reached)
 }
 
 // Confirms a recording whose header was read.

@@ -5,11 +5,16 @@ mod refusal;
 
 pub use name::say_name;
 pub use refusal::say_refused;
-ghost use Prim.Native.Nat.{_≤_};
+ghost use mathlib.Core.Bool.{false};
+ghost use mathlib.Core.Path.{_≡_};
+ghost use Prim.Native.Nat.{_-_, _<_, _≤_};
 ghost use lib.ListN.{length};
+ghost use Rattle.intake.specs.Arrival.{toldOf, soFar, filledAfter};
+ghost use Rattle.console.specs.Status.{codeOf, endedOf, unreadOf, begunRead};
 use confirmation::Outcome;
 use confirmation::Run;
 use confirmation::Totals;
+use intake::Filled;
 use libc::STDERR_FILENO;
 use libc::STDIN_FILENO;
 use libc::STDOUT_FILENO;
@@ -29,7 +34,9 @@ pub enum Status {
 
 impl Status {
     // The exit status that it stands for.
-    pub fn code(self) -> u32 {
+    pub fn code(self) -> u32
+        ensures { λ r. ⌜ r ≡ codeOf self ⌝ }
+    {
         match self {
             Status::Done => 0,
             Status::Refused => 1,
@@ -57,7 +64,9 @@ pub struct Read {
 
 impl Read {
     // A run that came to its end or to a refusal.
-    pub fn ended(run: Run) -> Read {
+    pub fn ended(run: Run) -> Read
+        ensures { λ r. ⌜ r ≡ endedOf run ⌝ }
+    {
         if run.number == 0 {
             return Read {
                 run,
@@ -71,7 +80,9 @@ impl Read {
     }
 
     // A run that could not be read on.
-    pub fn unread(run: Run) -> Read {
+    pub fn unread(run: Run) -> Read
+        ensures { λ r. ⌜ r ≡ unreadOf run ⌝ }
+    {
         Read {
             run,
             status: Status::Unread,
@@ -79,44 +90,62 @@ impl Read {
     }
 }
 
-// How many bytes of a buffer were filled, and whether a failed read ended it, not the end of the input.
-pub struct Filled {
-    pub have: usize,
-    pub is_failed: bool,
+// What a buffer with so many bytes comes to after a read with this count into what was left of it.
+fn filled_by(got: isize, have: usize, buffer: &[u8]) -> Filled
+    requires { ⌜ have ≤ length (now buffer) ⌝ }
+    ensures turn { λ r. ⌜ r ≡ filledAfter (soFar have) (toldOf got (length (now (buffer .entry)) - have)) (length (now (buffer .entry)) - have) ⌝ }
+    ensures within { λ r. ⌜ (r .have ≤ length (now (buffer .entry))) × (r .done ≡ false → have < r .have) ⌝ }
+{
+    let told = intake::tells(got, &buffer[have..]);
+    Filled::so_far(have).after(told, buffer.len() - have)
 }
 
-// Reads until the buffer is full, the input ends or a read fails.
+// Reads once into what is left of a buffer.
+fn fill_on(input: i32, have: usize, buffer: &mut [u8]) -> Filled
+    requires { ⌜ have ≤ length (now buffer) ⌝ }
+    ensures { λ r. ⌜ (r .have ≤ length (now (buffer .exit))) × (r .done ≡ false → have < r .have) ⌝ }
+{
+    let got = libc::read(input, &mut buffer[have..]);
+    filled_by(got, have, buffer)
+}
+
+// Reads until the buffer is full, the input ends or a read fails: `Filled::after` says what each read comes to.
 pub fn fill(input: i32, buffer: &mut [u8]) -> Filled
     ensures { λ r. ⌜ r .have ≤ length (now (buffer .exit)) ⌝ }
 {
     let mut have: usize = 0;
     while have < buffer.len() {
-        let got = libc::read(input, &mut buffer[have..]);
-        let more = io::count(got, &buffer[have..]);
-        if more == 0 {
-            return Filled {
-                have,
-                is_failed: got < 0,
-            };
+        let filled = fill_on(input, have, buffer);
+        if filled.done {
+            return filled;
         }
-        have += more;
+        have = filled.have;
     }
     Filled {
         have,
-        is_failed: false,
+        done: true,
+        failed: false,
     }
+}
+
+// What a header comes to, as far as it was filled.
+fn begun(header: &[u8], filled: Filled) -> Read
+    requires { ⌜ filled .have ≤ length (now header) ⌝ }
+    ensures { λ r. ⌜ r ≡ begunRead (now (header .entry)) filled ⌝ }
+{
+    let have = filled.have;
+    let run = Run::begin(&header[0..have]);
+    if filled.failed {
+        return Read::unread(run);
+    }
+    Read::ended(run)
 }
 
 // Reads a recording's header.
 pub fn begin(input: i32) -> Read {
     let mut header = [0u8; 4];
     let filled = fill(input, &mut header);
-    let have = filled.have;
-    let run = Run::begin(&header[0..have]);
-    if filled.is_failed {
-        return Read::unread(run);
-    }
-    Read::ended(run)
+    begun(&header, filled)
 }
 
 // Writes some text and a number. True where all of it was written.

@@ -1,8 +1,11 @@
 // `scramble` and `descramble`: words in, coded or decoded words out.
 ghost use mathlib.Core.Path.{_≡_};
+ghost use mathlib.Core.Bool.{true};
 ghost use Prim.Native.Nat.{_/_, _≤_};
 ghost use lib.ListN.{length};
+ghost use Rattle.console.specs.declared.Status.the-variants.{Unread};
 use console::Status;
+use intake::Filled;
 use libc::STDERR_FILENO;
 use libc::STDIN_FILENO;
 use libc::STDOUT_FILENO;
@@ -16,11 +19,11 @@ const PIECE: usize = 65536;
 // How many pieces pass between two reports of progress.
 const PIECES_A_REPORT: u64 = 64;
 
-// The state after so many words, and whether the input goes on, or how it ended: a refusal's number.
+// The state after so many words, whether the input is done, and how it ended: a refusal's number.
 struct Stream {
     state: State,
     words: u64,
-    is_open: bool,
+    done: bool,
     status: Status,
     number: u64,
 }
@@ -29,17 +32,19 @@ fn open(state: State, words: u64) -> Stream {
     Stream {
         state,
         words,
-        is_open: true,
+        done: false,
         status: Status::Done,
         number: 0,
     }
 }
 
-fn ended(state: State, words: u64, status: Status) -> Stream {
+fn ended(state: State, words: u64, status: Status) -> Stream
+    ensures { λ r. ⌜ r ≡ record { state = state; words = words; done = true; status = status; number = 0 } ⌝ }
+{
     Stream {
         state,
         words,
-        is_open: false,
+        done: true,
         status,
         number: 0,
     }
@@ -49,7 +54,7 @@ fn refused(state: State, words: u64, number: u64) -> Stream {
     Stream {
         state,
         words,
-        is_open: false,
+        done: true,
         status: Status::Refused,
         number,
     }
@@ -157,18 +162,19 @@ fn put_words(
     open(state, done)
 }
 
-// Takes one piece of the input.
-fn take_piece(
+// What a turn makes of what was filled of a piece. A failed read is not the end of the input.
+fn take_filled(
     is_coding: bool,
     stream: Stream,
+    filled: Filled,
     bytes: &mut [u8],
     words: &mut [u16],
     out: &mut [u16],
 ) -> Stream
-    requires { ⌜ (length (now words) ≡ length (now bytes) / 2) × (length (now out) ≡ length (now words)) ⌝ }
+    requires { ⌜ (length (now words) ≡ length (now bytes) / 2) × (length (now out) ≡ length (now words)) × (filled .have ≤ length (now bytes)) ⌝ }
+    ensures { λ r. ⌜ (filled .failed ≡ true → r ≡ record { state = stream .state; words = stream .words; done = true; status = Unread; number = 0 }) ⌝ }
 {
-    let filled = console::fill(STDIN_FILENO, bytes);
-    if filled.is_failed {
+    if filled.failed {
         return ended(stream.state, stream.words, Status::Unread);
     }
     let have = filled.have;
@@ -185,6 +191,20 @@ fn take_piece(
     )
 }
 
+// Takes one piece of the input.
+fn take_piece(
+    is_coding: bool,
+    stream: Stream,
+    bytes: &mut [u8],
+    words: &mut [u16],
+    out: &mut [u16],
+) -> Stream
+    requires { ⌜ (length (now words) ≡ length (now bytes) / 2) × (length (now out) ≡ length (now words)) ⌝ }
+{
+    let filled = console::fill(STDIN_FILENO, bytes);
+    take_filled(is_coding, stream, filled, bytes, words, out)
+}
+
 fn show(words: u64) {
     console::say(STDERR_FILENO, b"\rwords ", words);
 }
@@ -196,7 +216,7 @@ fn take_pieces(is_coding: bool, bytes: &mut [u8], words: &mut [u16], out: &mut [
     let is_shown = console::is_shown();
     let mut stream = open(State::fresh(), 0);
     let mut turns = u64::MAX;
-    while turns > 0 && stream.is_open {
+    while turns > 0 && !stream.done {
         stream = take_piece(is_coding, stream, bytes, words, out);
         turns -= 1;
         if is_shown && turns % PIECES_A_REPORT == 0 {

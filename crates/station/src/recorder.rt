@@ -1,8 +1,20 @@
 // `record`: v210 rows in; a recording out, or a row of recordings in a folder.
+ghost use mathlib.Core.Path.{_≡_};
+ghost use mathlib.Core.Bool.{Bool, true, false};
+ghost use mathlib.Core.List.{[], _∷_};
+ghost use Prim.Native.Nat.{_%_, _≤_};
+ghost use lib.ListN.{length, take};
+ghost use Rattle.lent.specs.Bytes.{bytesOf};
+ghost use Rattle.confirmation.specs.Run.{headerLength};
+ghost use Rattle.programme.specs.Tape.{turnedOf, tapedOf, atLine, nothingMore, onto, endOf, mostTurns};
+ghost use Rattle.console.specs.declared.Status.the-variants.{Done, Unread};
+ghost use Rattle.station.specs.Turns.{tapedTurn};
 use console::Status;
+use intake::Filled;
 use libc::STDERR_FILENO;
 use libc::STDIN_FILENO;
 use libc::STDOUT_FILENO;
+use programme::Tape;
 use system::System625;
 use system::Walk;
 
@@ -20,46 +32,33 @@ const STANDARD: Output = Output {
     piece: 0,
 };
 
-// A walk over the lines that are written, and whether it goes on, or how it ended: a refusal's number and place.
-struct Tape {
-    walk: Walk,
+// A tape and where it is written, whether it is done, and how it ended.
+struct Taping {
+    tape: Tape,
     output: Output,
-    is_open: bool,
+    done: bool,
     status: Status,
-    number: u32,
-    place: usize,
 }
 
-fn open(walk: Walk, output: Output) -> Tape {
-    Tape {
-        walk,
+fn open(tape: Tape, output: Output) -> Taping
+    ensures { λ r. ⌜ r ≡ record { tape = tape; output = output; done = false; status = Done } ⌝ }
+{
+    Taping {
+        tape,
         output,
-        is_open: true,
+        done: false,
         status: Status::Done,
-        number: 0,
-        place: 0,
     }
 }
 
-fn ended(walk: Walk, output: Output, status: Status) -> Tape {
-    Tape {
-        walk,
+fn ended(tape: Tape, output: Output, status: Status) -> Taping
+    ensures { λ r. ⌜ r ≡ record { tape = tape; output = output; done = true; status = status } ⌝ }
+{
+    Taping {
+        tape,
         output,
-        is_open: false,
+        done: true,
         status,
-        number: 0,
-        place: 0,
-    }
-}
-
-fn refused(walk: Walk, output: Output, number: u32, place: usize) -> Tape {
-    Tape {
-        walk,
-        output,
-        is_open: false,
-        status: Status::Refused,
-        number,
-        place,
     }
 }
 
@@ -99,21 +98,38 @@ fn say_part(walk: Walk) {
     );
 }
 
-// The header: the system and the start line as words.
-fn put_header(walk: Walk, output: Output) -> Tape {
-    let mut header = [0u8; 4];
+// A header: the system and the first line as words.
+fn fill_header(walk: Walk, header: &mut [u8])
+    requires { ⌜ length (now header) ≡ headerLength ⌝ }
+    ensures { λ _. ⌜ now (header .exit) ≡ bytesOf (walk .system % 65536 ∷ walk .line % 65536 ∷ []) ⌝ }
+{
     lent::to_bytes(
         &[(walk.system % 65536) as u16, (walk.line % 65536) as u16],
-        &mut header,
+        header,
     );
-    if io::write_all(output.file, &header) {
-        return open(walk, output);
-    }
-    ended(walk, output, Status::Unwritten)
 }
 
-// Makes the recording of this number in the folder, for lines from this walk on, by way of room for its path.
-fn make_by(folder: &[u8], piece: u32, walk: Walk, path: &mut [u8]) -> Tape {
+// Writes the header of a recording that begins with this walk. True where all of it was written.
+fn put_header(walk: Walk, file: i32) -> bool {
+    let mut header = [0u8; 4];
+    fill_header(walk, &mut header);
+    io::write_all(file, &header)
+}
+
+// A tape whose recording begins here: its header is written.
+fn begun(tape: Tape, output: Output) -> Taping
+    ensures { λ r. ⌜ r .tape ≡ tape ⌝ }
+{
+    if put_header(tape.walk, output.file) {
+        return open(tape, output);
+    }
+    ended(tape, output, Status::Unwritten)
+}
+
+// Makes the recording of this number in the folder, for this tape, by way of room for its path.
+fn make_by(folder: &[u8], piece: u32, tape: Tape, path: &mut [u8]) -> Taping
+    ensures { λ r. ⌜ r .tape ≡ tape ⌝ }
+{
     let made = folder::make(folder, piece, path);
     let length = made.length;
     let output = Output {
@@ -123,20 +139,24 @@ fn make_by(folder: &[u8], piece: u32, walk: Walk, path: &mut [u8]) -> Tape {
     if made.file < 0 {
         console::say_of(b"record", &path[0..length]);
         os::fail(b" could not be made");
-        return ended(walk, output, Status::Failed);
+        return ended(tape, output, Status::Failed);
     }
-    put_header(walk, output)
+    begun(tape, output)
 }
 
-fn make(folder: &[u8], piece: u32, walk: Walk) -> Tape {
+fn make(folder: &[u8], piece: u32, tape: Tape) -> Taping
+    ensures { λ r. ⌜ r .tape ≡ tape ⌝ }
+{
     let mut path = io::buffer();
-    make_by(folder, piece, walk, &mut path)
+    make_by(folder, piece, tape, &mut path)
 }
 
-// The recording behind this one in the folder. Its lines are counted from none again.
-fn make_next(folder: &[u8], walk: Walk, output: Output) -> Tape {
+// The recording behind this one in the folder, which takes what is left of the tape.
+fn make_next(folder: &[u8], tape: Tape, output: Output) -> Taping
+    ensures { λ r. ⌜ (r .done ≡ false → r .tape ≡ turnedOf tape) ⌝ }
+{
     if libc::close(output.file) < 0 {
-        return ended(walk, output, Status::Unwritten);
+        return ended(tape, output, Status::Unwritten);
     }
     if folder::MOST <= output.piece {
         console::say_of(b"record", folder);
@@ -144,18 +164,17 @@ fn make_next(folder: &[u8], walk: Walk, output: Output) -> Tape {
             STDERR_FILENO,
             b" holds 9999 recordings, and no more can be numbered\n",
         );
-        return ended(walk, output, Status::Failed);
+        return ended(tape, output, Status::Failed);
     }
-    let fresh = system::fresh_walk(walk.system, walk.line);
-    make(folder, output.piece + 1, fresh.walk)
+    make(folder, output.piece + 1, tape.turned())
 }
 
 // The first recording of a folder, which is made where it is not there and holds none yet.
-fn make_first(folder: &[u8], walk: Walk) -> Tape {
+fn make_first(folder: &[u8], tape: Tape) -> Taping {
     if os::mkdir(folder) < 0 && os::errno() != libc::EEXIST {
         console::say_of(b"record", folder);
         os::fail(b" could not be made");
-        return ended(walk, STANDARD, Status::Failed);
+        return ended(tape, STANDARD, Status::Failed);
     }
     if folder::is_folder(folder) && folder::last(folder) != 0 {
         console::say_of(b"record", folder);
@@ -163,121 +182,135 @@ fn make_first(folder: &[u8], walk: Walk) -> Tape {
             STDERR_FILENO,
             b" holds recordings already: name another folder\n",
         );
-        return ended(walk, STANDARD, Status::Failed);
+        return ended(tape, STANDARD, Status::Failed);
     }
-    make(folder, 1, walk)
+    make(folder, 1, tape)
 }
 
-// Writes the line that the walk awaits, of this row where its V is 0.
-fn put_line(walk: Walk, output: Output, row: &[u8], line: &mut [u8]) -> Tape {
-    let judgement = programme::record(walk, row, line);
-    if judgement.number != 0 {
-        return refused(walk, output, judgement.number, judgement.place);
+// Writes the line that the tape awaits, of this row where its V is 0.
+fn put_line(tape: Tape, output: Output, row: &[u8], line: &mut [u8]) -> Taping
+    ensures { λ r. ⌜ ((written : Bool) × (r ≡ tapedTurn (tapedOf tape (now (row .entry)) (length (now (line .entry)))) output written)) ⌝ }
+{
+    let next = tape.next(row, line);
+    if next.number != 0 {
+        return ended(next, output, Status::Refused);
     }
-    if !io::write_all(output.file, line) {
-        return ended(walk, output, Status::Unwritten);
+    if io::write_all(output.file, line) {
+        return open(next, output);
     }
-    open(judgement.walk, output)
+    ended(next, output, Status::Unwritten)
 }
 
-// The same in the folder's next recording, where this one ends.
-fn put_next(
-    walk: Walk,
-    output: Output,
-    row: &[u8],
-    line: &mut [u8],
-    folder: &[u8],
-    most: u32,
-) -> Tape {
-    if output.piece == 0 || !programme::ends_piece(walk, most) {
-        return put_line(walk, output, row, line);
+// The tape at its next line: in the folder's next recording, where this one ends.
+fn at_line(tape: Tape, output: Output, folder: &[u8]) -> Taping
+    ensures { λ r. ⌜ (r .done ≡ false → r .tape ≡ atLine tape) ⌝ }
+{
+    if tape.turns() {
+        return make_next(folder, tape, output);
     }
-    let next = make_next(folder, walk, output);
-    if !next.is_open {
-        return next;
-    }
-    put_line(next.walk, next.output, row, line)
+    open(tape, output)
 }
 
-// Writes lines up to the one that takes the row. No frame has more V = 1 lines in turn than it has lines.
-fn put_row(
-    walk: Walk,
-    output: Output,
-    row: &[u8],
-    line: &mut [u8],
-    folder: &[u8],
-    most: u32,
-) -> Tape {
-    let mut tape = open(walk, output);
-    let mut is_taken = false;
+// Writes lines up to the one that takes the row.
+fn put_row(tape: Tape, output: Output, row: &[u8], line: &mut [u8], folder: &[u8]) -> Taping
+    ensures { λ r. ⌜ (r .done ≡ false → r .tape ≡ onto (length (now (line .entry))) mostTurns tape (now (row .entry)) nothingMore .tape) ⌝ }
+{
+    let mut taping = open(tape, output);
     let mut lines = System625::LINE_COUNT;
-    while lines > 0 && tape.is_open && !is_taken {
-        is_taken = programme::takes_row(tape.walk);
-        tape = put_next(tape.walk, tape.output, row, line, folder, most);
+    while lines > 0 {
+        let at = at_line(taping.tape, taping.output, folder);
+        if at.done {
+            return at;
+        }
+        let here = at.tape;
+        let is_taken = programme::takes_row(here.walk);
+        taping = put_line(here, at.output, row, line);
+        if taping.done {
+            return taping;
+        }
+        if is_taken {
+            return taping;
+        }
         lines -= 1;
     }
-    tape
+    taping
 }
 
 // Writes the V = 1 lines up to the next line that takes a row or the end of the frame, as far as there may be lines.
-fn end_frame(walk: Walk, output: Output, line: &mut [u8]) -> Tape {
-    let mut tape = open(walk, output);
+fn end_frame(tape: Tape, output: Output, line: &mut [u8]) -> Taping
+    ensures end { λ r. ⌜ (r .status ≡ Done → r .tape ≡ endOf (length (now (line .entry))) mostTurns tape .tape) ⌝ }
+    ensures done { λ r. ⌜ r .done ≡ true ⌝ }
+{
+    let mut at = tape;
     let mut lines = System625::LINE_COUNT;
-    while lines > 0
-        && tape.is_open
-        && programme::ends_frame(tape.walk)
-        && tape.walk.refusal().number == 0
-    {
-        tape = put_line(tape.walk, tape.output, &[], line);
+    while lines > 0 {
+        if !at.ends() {
+            return ended(at, output, Status::Done);
+        }
+        let taping = put_line(at, output, &[], line);
+        if taping.done {
+            return taping;
+        }
+        at = taping.tape;
         lines -= 1;
     }
-    let reached = tape.walk;
-    let status = tape.status;
-    ended(reached, output, status)
+    ended(at, output, Status::Done)
 }
 
-// Takes one row of the input.
-fn take_row(
-    walk: Walk,
+// What a turn makes of what was filled of a row. A failed read is not the end of the input.
+fn turned(
+    tape: Tape,
     output: Output,
-    row: &mut [u8],
+    filled: Filled,
+    row: &[u8],
     line: &mut [u8],
     folder: &[u8],
-    most: u32,
-) -> Tape {
-    let filled = console::fill(STDIN_FILENO, row);
-    if filled.is_failed {
-        return ended(walk, output, Status::Unread);
+) -> Taping
+    requires { ⌜ filled .have ≤ length (now row) ⌝ }
+    ensures failed { λ r. ⌜ (filled .failed ≡ true → r ≡ record { tape = tape; output = output; done = true; status = Unread }) ⌝ }
+    ensures end { λ r. ⌜ (filled .failed ≡ false → filled .have ≡ 0 → r .status ≡ Done → r .tape ≡ endOf (length (now (line .entry))) mostTurns tape .tape) ⌝ }
+    ensures row { λ r. ⌜ (r .done ≡ false → r .tape ≡ onto (length (now (line .entry))) mostTurns tape (take (filled .have) (now (row .entry))) nothingMore .tape) ⌝ }
+{
+    if filled.failed {
+        return ended(tape, output, Status::Unread);
     }
     let have = filled.have;
     if have == 0 {
-        return end_frame(walk, output, line);
+        return end_frame(tape, output, line);
     }
-    put_row(walk, output, &row[0..have], line, folder, most)
+    put_row(tape, output, &row[0..have], line, folder)
+}
+
+// Takes one row of the input.
+fn take_row(tape: Tape, output: Output, row: &mut [u8], line: &mut [u8], folder: &[u8]) -> Taping {
+    let filled = console::fill(STDIN_FILENO, row);
+    turned(tape, output, filled, row, line, folder)
 }
 
 // Takes rows to the end of the input or the first refusal. The turns count down from a number that no input uses up.
-fn take_rows(first: Tape, row: &mut [u8], line: &mut [u8], folder: &[u8], most: u32) -> Tape {
+fn take_rows(first: Taping, row: &mut [u8], line: &mut [u8], folder: &[u8]) -> Taping {
     let is_shown = console::is_shown();
-    let mut tape = first;
+    let mut taping = first;
     let mut turns = u64::MAX;
-    while turns > 0 && tape.is_open {
-        tape = take_row(tape.walk, tape.output, row, line, folder, most);
+    while turns > 0 && !taping.done {
+        taping = take_row(taping.tape, taping.output, row, line, folder);
         turns -= 1;
         if is_shown && turns % ROWS_A_REPORT == 0 {
-            console::show(tape.walk);
+            let at = taping.tape;
+            console::show(at.walk);
         }
     }
     if is_shown {
         console::end_show();
     }
-    tape
+    taping
 }
 
 // Says why a tape ended before its input did, or that it ended inside a frame, and answers the exit status.
-fn tell(tape: Tape) -> u32 {
+fn tell(taping: Taping) -> u32 {
+    let tape = taping.tape;
     let walk = tape.walk;
-    let status = tape.status;
+    let status = taping.status;
     if tape.number != 0 {
         say_refused(tape.number, walk.line, tape.place);
     }
@@ -289,33 +322,36 @@ fn tell(tape: Tape) -> u32 {
 }
 
 // Closes the folder's last recording: what was written may fail as late as that.
-fn close(tape: Tape) -> Tape {
-    let output = tape.output;
-    let status = tape.status;
+fn close(taping: Taping) -> Taping {
+    let output = taping.output;
+    let status = taping.status;
     if output.piece == 0 || status.code() != 0 || libc::close(output.file) == 0 {
-        return tape;
+        return taping;
     }
-    ended(tape.walk, output, Status::Unwritten)
+    ended(taping.tape, output, Status::Unwritten)
+}
+
+// Where the first recording goes: to standard output, or into the folder, where one is named.
+fn start(tape: Tape, folder: &[u8]) -> Taping {
+    if folder.len() == 0 {
+        return begun(tape, STANDARD);
+    }
+    make_first(folder, tape)
 }
 
 // Records standard input: to standard output, or in a folder, where one is named, in recordings of at most so many lines. Answers the
 // exit status.
-pub fn record_input(system: u32, start: u32, folder: &[u8], most: u32) -> u32 {
-    let fresh = system::fresh_walk(system, start);
-    let walk = fresh.walk;
-    if fresh.number != 0 {
-        return tell(refused(walk, STANDARD, fresh.number, fresh.place));
+pub fn record_input(system: u32, start_line: u32, folder: &[u8], most: u32) -> u32 {
+    let tape = Tape::begin(system, start_line, most);
+    if tape.number != 0 {
+        return tell(ended(tape, STANDARD, Status::Refused));
     }
-    let first = if folder.len() == 0 {
-        put_header(walk, STANDARD)
-    } else {
-        make_first(folder, walk)
-    };
-    if !first.is_open {
+    let first = start(tape, folder);
+    if first.done {
         return tell(first);
     }
-    let size = confirmation::line_bytes(walk);
+    let size = confirmation::line_bytes(tape.walk);
     let mut row = [0u8; v210::ROW_LENGTH];
     let mut line = [0u8; 2 * System625::LINE_LENGTH];
-    tell(close(take_rows(first, &mut row, &mut line[0..size], folder, most)))
+    tell(close(take_rows(first, &mut row, &mut line[0..size], folder)))
 }

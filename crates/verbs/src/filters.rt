@@ -9,6 +9,9 @@ use crate::wrong;
 use std::num::wrapping_add_usize;
 use system::Walk;
 
+// The most lines of a recording that is never cut: past the limit it is refused.
+const UNCUT: u32 = u32::MAX;
+
 // Serial coding or decoding, which takes no argument.
 pub(crate) fn code(verb: &[u8], what: &[u8], is_coding: bool) -> u32 {
     let first = names_from(verb);
@@ -101,7 +104,7 @@ fn record_out(system: u32, start: u32) -> u32 {
         return 2;
     }
     console::say_waits(b"record", b"v210 rows");
-    station::record_input(system, start, &[], Walk::MOST_LINES)
+    station::record_input(system, start, &[], UNCUT)
 }
 
 // The most frames of a recording that an argument gives; where none does, more than any has lines.

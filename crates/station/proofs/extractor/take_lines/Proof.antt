@@ -6,10 +6,10 @@ use Rattle.station.proofs.extractor.take_lines.Statement.{statement}
 use Rattle.station.proofs.extractor.take_lines.Tie as tie
 
 abbrev Inv-loop : tie.InvT-loop
-Inv-loop input line₀ row₀ is-shown tape₀ turns₀ line row tape turns = (length line ≡ length line₀) × (length row ≡ length row₀)
+Inv-loop input line₀ row₀ is-shown at₀ turns₀ line row at turns = (length line ≡ length line₀) × (length row ≡ length row₀)
 
 abbrev μ-loop : tie.MeasureT-loop
-μ-loop input line₀ row₀ is-shown tape₀ turns₀ line row tape turns = turns
+μ-loop input line₀ row₀ is-shown at₀ turns₀ line row at turns = turns
 
 is-shown-requires : tie.Need-is-shown-requires Inv-loop μ-loop
 is-shown-requires c κs = search needs

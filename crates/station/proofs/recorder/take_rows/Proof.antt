@@ -6,25 +6,25 @@ use Rattle.station.proofs.recorder.take_rows.Statement.{statement}
 use Rattle.station.proofs.recorder.take_rows.Tie as tie
 
 abbrev Inv-loop : tie.InvT-loop
-Inv-loop row₀ line₀ folder most is-shown tape₀ turns₀ row line tape turns = (length row ≡ length row₀) × (length line ≡ length line₀)
+Inv-loop row₀ line₀ folder is-shown taping₀ turns₀ row line taping turns = (length row ≡ length row₀) × (length line ≡ length line₀)
 
 abbrev μ-loop : tie.MeasureT-loop
-μ-loop row₀ line₀ folder most is-shown tape₀ turns₀ row line tape turns = turns
+μ-loop row₀ line₀ folder is-shown taping₀ turns₀ row line taping turns = turns
 
 is-shown-requires : tie.Need-is-shown-requires Inv-loop μ-loop
-is-shown-requires c κs = search needs
+is-shown-requires c κs = tt
 
 loop-holds : tie.Need-loop-holds Inv-loop μ-loop
 loop-holds c = search needs
 
 take-row-requires : tie.Need-take-row-requires Inv-loop μ-loop
-take-row-requires c κs = search needs
+take-row-requires c κs = tt
 
 sub-turns : tie.Need-sub-turns Inv-loop μ-loop
 sub-turns c = search needs
 
 show-requires : tie.Need-show-requires Inv-loop μ-loop
-show-requires c κs = search needs
+show-requires c κs = tt
 
 loop-less : tie.Need-loop-less Inv-loop μ-loop
 loop-less c = search needs
@@ -39,7 +39,7 @@ loop-again-2 : tie.Need-loop-again-2 Inv-loop μ-loop
 loop-again-2 c = search needs
 
 end-show-requires : tie.Need-end-show-requires Inv-loop μ-loop
-end-show-requires c κs = search needs
+end-show-requires c κs = tt
 
 same-length : tie.Need-same-length Inv-loop μ-loop
 same-length c = search needs

@@ -1,0 +1,43 @@
+-- `station::recorder::fill_header` meets its contract: four bytes are those of two words. Assumes nothing.
+use borrow.Author.Needs.{needs}
+use Prim.Native.Nat.{ℕ}
+use mathlib.Core.Path.{_≡_, ap, _∙_}
+use mathlib.Core.List.{List}
+use lib.ListN.{length}
+use Rattle.refusal.specs.declared.Refusal.{Refusal}
+use Rattle.confirmation.specs.Run.{headerLength}
+use Rattle.lent.specs.Bytes.{bytesOf, pairsRefusal, filledBy}
+use Rattle.lent.proofs.Bytes.{pairs-accepted}
+use Rattle.station.proofs.recorder.fill_header.Statement.{statement}
+use Rattle.station.proofs.recorder.fill_header.Tie as tie
+
+header-filled : (r : Refusal) (words header after : List ℕ) → length header ≡ headerLength → r ≡ pairsRefusal (length header) 2
+    → after ≡ filledBy r (bytesOf words) header → after ≡ bytesOf words
+header-filled r words header after size e filled =
+    filled ∙ ap (λ (x : Refusal). filledBy x (bytesOf words) header) (e ∙ pairs-accepted (length header) 2 size)
+
+cast-t6 : tie.Need-cast-t6
+cast-t6 c = search needs
+
+cast-t8 : tie.Need-cast-t8
+cast-t8 c = search needs
+
+slice-aggregate-to-bytes : tie.Need-slice-aggregate-to-bytes
+slice-aggregate-to-bytes c = search needs
+
+to-bytes-requires : tie.Need-to-bytes-requires
+to-bytes-requires c κs = search needs
+
+same-length : tie.Need-same-length
+same-length c = search needs
+
+returns : tie.Need-returns
+returns c =
+    let t = c .before .before in
+    let b = t .before .before .before .before .before .before in
+    header-filled (t .to-bytes .result) _ (b .args .header .now) _ (b .pre) (t .to-bytes .ensures .0) (t .to-bytes .ensures .1)
+
+pub fill-header-spec : {M : Type 1} → statement M
+fill-header-spec =
+    tie.close
+    (tie.spec cast-t6 cast-t8 slice-aggregate-to-bytes to-bytes-requires same-length returns)
