@@ -2,23 +2,29 @@
 
 from itertools import product
 
-from independent import judge
+from independent import call_cases, judge, step_cases
 from independent.material import (
     CODE_BITS,
+    EDGE_COUNTS,
+    EDGE_LINES,
     EDGE_WORDS,
     HIGHEST,
     SYSTEMS,
+    WRONG_SYSTEMS,
     Source,
     changed,
+    chosen_lines,
     edge_offsets,
     fourth_offsets,
     inverted,
     line_after,
+    line_for,
     line_numbers,
-    line_of_each_kind,
     plain_and_blank_line,
     samples_of,
+    stretched,
     turning_lines,
+    word_lengths,
 )
 from independent.protocol import (
     ACTIVE,
@@ -32,29 +38,6 @@ from independent.protocol import (
     WRITE,
     Case,
     pack_slice,
-)
-
-WRONG_SYSTEMS = (
-    0, 1, 524, 526, 624, 626, 65_536, 65_536 + 525, 65_536 + 625, 2**31 + 625, HIGHEST,
-)  # fmt: skip
-EDGE_LINES = (
-    0, 1, 2, 524, 525, 526, 624, 625, 626, 65_535, 65_536, 65_537, 2**31 + 1, HIGHEST,
-)  # fmt: skip
-EDGE_COUNTS = (
-    (0, 0),
-    (0, 1),
-    (1, 2),
-    (1, 3),
-    (5, HIGHEST),
-    (9_999_999, 0),
-    (9_999_999, 19_999_998),
-    (9_999_999, 19_999_999),
-    (10_000_000, 0),
-    (10_000_000, 20_000_001),
-    (2**31, 0),
-    (2**31 + 1, 2),
-    (HIGHEST, 0),
-    (HIGHEST, HIGHEST),
 )
 
 LISTED_SAMPLES = (3, 4, 1019, 1020)
@@ -94,25 +77,6 @@ def readings(source, walk, words):
     yield READ, (walk, words, *source.junk_buffers())
     yield ACTIVE, (walk, words)
     yield bytewise(walk, pack_slice(words))
-
-
-def chosen_lines():
-    """A line of each system, F and V."""
-    for system in SYSTEMS:
-        for line in line_of_each_kind(system):
-            yield system, line
-
-
-def line_for(source, system, line):
-    """A clean line for a right system and line number, or else the nearest such."""
-    system = system % 65_536 if system % 65_536 in SYSTEMS else max(SYSTEMS)
-    line %= 65_536
-    return source.written(system, line if line in line_numbers(system) else 1)
-
-
-def stretched(words, length):
-    """The line cut, or lengthened by more fill."""
-    return (words + judge.FILL)[:length]
 
 
 def every_word(source):
@@ -323,13 +287,6 @@ def shifted_lines(source):
             yield from readings(source, walk, words[turn:] + words[:turn])
         swapped = [word >> 8 | (word & 255) << 8 for word in words]
         yield from readings(source, walk, swapped)
-
-
-def word_lengths(system):
-    """The right length first."""
-    due = judge.SYSTEMS[system].words
-    other = next(f.words for n, f in judge.SYSTEMS.items() if n != system)
-    return due, 0, due - 1, due + 1, other
 
 
 def slice_lengths(system):
@@ -546,6 +503,8 @@ FAMILIES = (
     serial_bad_words,
     serial_lengths,
     serial_round_trip,
+    *call_cases.FAMILIES,
+    *step_cases.FAMILIES,
 )
 
 

@@ -294,10 +294,14 @@ def row_of(piece):
     )
 
 
+def hour_parts(seconds):
+    """Ten-thousandths of an hour, to the nearest."""
+    return floor(seconds * Fraction(10_000, 3_600) + Fraction(1, 2))
+
+
 def hours(runs):
-    """The programme's time, to the nearest ten-thousandth of an hour."""
-    seconds = sum(run.lines * LINE_SECONDS.get(run.system, 0) for run in runs)
-    parts = floor(seconds * Fraction(10_000, 3_600) + Fraction(1, 2))
+    """The programme's time."""
+    parts = hour_parts(sum(run.lines * LINE_SECONDS.get(run.system, 0) for run in runs))
     return f"{parts // 10_000}.{parts % 10_000:04}"
 
 

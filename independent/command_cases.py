@@ -311,7 +311,7 @@ def helps(source):
         yield Case(same % (option, "help"), b"", nothing)
     for verb in VERBS:
         yield case_of(("help", verb))
-        yield Case(f"{COMMAND} help {verb} | grep -q 'fiskrogn {verb}'", b"", nothing)
+        yield Case(f"{COMMAND} help {verb} | grep 'fiskrogn {verb}' >/dev/null", b"", nothing)
         for option in ("--help", "-h"):
             yield Case(same % (f"{verb} {option}", f"help {verb}"), b"", nothing)
 

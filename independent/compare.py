@@ -2,10 +2,10 @@
 
 Run: python3 -m independent.compare --probe "CMD ARGS" --confirm "CMD ARGS"
 The probe takes cases on standard input and gives answers on standard output
-(see protocol.py); the confirm command is the confirming program, of which
-standard error and status are compared too. A difference is shown with its
-case, and the input that reproduces it is kept in a file. The last line tells
-how many comparisons passed and how many failed.
+(see protocol.py and kinds.py); the confirm command is the confirming program,
+of which standard error and status are compared too. A difference is shown with
+its case, and the input that reproduces it is kept in a file. The last line
+tells how many comparisons passed and how many failed.
 """
 
 import argparse
@@ -22,7 +22,7 @@ from concurrent.futures import ThreadPoolExecutor
 from pathlib import Path
 from threading import Timer
 
-from independent import judge, protocol, stream
+from independent import judge, kinds, protocol, stream
 from independent.cases import cases
 from independent.command import Answer, told_answer
 from independent.material import Choice
@@ -139,7 +139,7 @@ def batches(all_cases):
     batch, size = [], 0
     for case in all_cases:
         data = protocol.case_bytes(case)
-        batch.append((case, data, protocol.expected_answer(case)))
+        batch.append((case, data, kinds.expected_answer(case)))
         size += len(data)
         if size >= BATCH_BYTES:
             yield batch
@@ -160,7 +160,7 @@ def compare_batch(tally, batch, outcome):
     """Part the answers; what is left over belongs to the last of them."""
     start = 0
     for position, (case, data, expected) in enumerate(batch, 1):
-        end = start + protocol.answer_size(case, expected, outcome.output, start)
+        end = start + kinds.answer_size(case, expected, outcome.output, start)
         got = outcome.output[start : end if position < len(batch) else None]
         start = end
         compare_case(tally, case, data, expected, got, ending_of(outcome))
@@ -169,12 +169,12 @@ def compare_batch(tally, batch, outcome):
 def compare_case(tally, case, data, expected, got, ending):
     def explain():
         lines = [
-            f"  {protocol.shown_call(case)}",
-            f"  expected: {protocol.shown_answer(case, expected)}",
-            f"  got:      {protocol.shown_answer(case, got)}",
+            f"  {kinds.shown_call(case)}",
+            f"  expected: {kinds.shown_answer(case, expected)}",
+            f"  got:      {kinds.shown_answer(case, got)}",
             f"  probe's end: {ending}",
         ]
-        difference = protocol.first_difference(case, expected, got)
+        difference = kinds.first_difference(case, expected, got)
         return "\n".join(lines + [f"  {difference}"] * (difference is not None))
 
     name = f"kind {case.kind}, {case.family}, index {case.index}"
@@ -249,13 +249,13 @@ def options_of(arguments):
     parser.add_argument("--probe", type=shlex.split, help="command that answers cases")
     parser.add_argument("--confirm", type=shlex.split, help="the confirming program")
     parser.add_argument("--keep", help="directory for inputs that show a difference")
-    parser.add_argument("--kinds", help="kinds of the probe, 1 to 9, and 'confirm': 3,9,confirm")
+    parser.add_argument("--kinds", help="numbers of protocol.py, and 'confirm': 3,9,confirm")
     parser.add_argument("--quick", action="store_true", help="a small part of all cases")
     parser.add_argument("--limit", action="store_true", help="only the runs of 10,000,000 lines")
     parser.add_argument("--seed", type=int, default=SEED, help="seed of the random numbers")
     parser.add_argument("-j", "--jobs", type=int, default=2, help="commands at a time")
     options = parser.parse_args(arguments)
-    names = [*map(str, protocol.KINDS), CONFIRM]
+    names = [*map(str, kinds.KINDS), CONFIRM]
     options.kinds = options.kinds.split(",") if options.kinds else names
     if not set(options.kinds) <= set(names):
         parser.error(f"kinds are {', '.join(names)}")
@@ -268,9 +268,9 @@ def compare_all(tally, options):
     if options.limit:
         compare_limit(tally, options.confirm, options.jobs)
         return
-    kinds = {int(kind) for kind in options.kinds if kind != CONFIRM}
+    asked = {int(kind) for kind in options.kinds if kind != CONFIRM}
     if options.probe:
-        chosen = cases(options.seed, kinds, QUICK_CASES if options.quick else ALL)
+        chosen = cases(options.seed, asked, QUICK_CASES if options.quick else ALL)
         compare_probe(tally, options.probe, options.jobs, chosen)
     if options.confirm and CONFIRM in options.kinds:
         chosen = runs(options.seed, QUICK_RUNS if options.quick else ALL)

@@ -43,7 +43,7 @@ from independent.command_cases import (
     TO_TERMINAL,
     called,
 )
-from independent.compare import LIMIT_TIMEOUT_SECONDS, SEED, Tally, hand_over
+from independent.compare import LIMIT_TIMEOUT_SECONDS, SEED, Tally, hand_over, in_order
 from independent.material import Source
 from independent.runs import header
 from independent.stream import LIMIT, LongRun, write_all
@@ -245,12 +245,21 @@ def compare_case(tally, family, name, case, got, words):
     tally.compare(family, name, case.data, due, compared(case, got), explain)
 
 
-def compare_all(tally, words, path):
+def numbered_cases(seed):
+    """All cases, each with its family's name and its number there."""
     for family in FAMILIES:
         name = family.__name__.replace("_", " ")
-        for index, case in enumerate(family(Source(tally.seed, name))):
-            got = run(case, words, path)
-            compare_case(tally, name, f"{name}, index {index}", case, got, words)
+        for index, case in enumerate(family(Source(seed, name))):
+            yield name, index, case
+
+
+def compare_all(tally, words, jobs):
+    def work(numbered):
+        with tempfile.TemporaryDirectory() as room:
+            return run(numbered[2], words, Path(room, "input"))
+
+    for (family, index, case), got in in_order(jobs, work, numbered_cases(tally.seed)):
+        compare_case(tally, family, f"{family}, index {index}", case, got, words)
 
 
 def limit_runs():
@@ -308,17 +317,17 @@ def options_of(arguments):
     parser.add_argument("--keep", help="directory for inputs that show a difference")
     parser.add_argument("--limit", action="store_true", help="only the runs of 10,000,000 lines")
     parser.add_argument("--seed", type=int, default=SEED, help="seed of the random numbers")
+    parser.add_argument("-j", "--jobs", type=int, default=2, help="commands at a time")
     return parser.parse_args(arguments)
 
 
 def main():
     options = options_of(sys.argv[1:])
     tally, words = Tally(options.seed, options.keep), command_words(options.command)
-    with tempfile.TemporaryDirectory() as room:
-        if options.limit:
-            compare_limit(tally, words)
-        else:
-            compare_all(tally, words, Path(room, "input"))
+    if options.limit:
+        compare_limit(tally, words)
+    else:
+        compare_all(tally, words, options.jobs)
     tally.summary()
     return 0 if tally.passed and not tally.failed else 1
 

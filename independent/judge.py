@@ -290,11 +290,15 @@ def line_report(system, words):
     return tuple(repaired_bit(words[code + len(PREAMBLE)]) for code in (eav, sav))
 
 
-def advanced(walk, words):
-    """The walk after an accepted line."""
+def repaired_codes(system, words):
+    # "Counting repaired lines; the count is of repaired codes."
+    return sum(bit != 0 for bit in line_report(system, words))
+
+
+def advanced(walk, repairs):
+    """The walk after an accepted line with so many repaired codes."""
     # "An accepted line advances the line number, adds 1 to lines read and 0 to
-    # 2 to repairs."; "the count is of repaired codes".
-    repairs = sum(bit != 0 for bit in line_report(walk.system, words))
+    # 2 to repairs."
     # "After the last line comes line 1."
     line = walk.line % SYSTEMS[walk.system].lines + 1
     return Walk(walk.system, line, walk.lines_read + 1, walk.repairs + repairs)
@@ -318,7 +322,8 @@ def read(walk, words, y, cb, cr):
         part = words[active_start(walk.system) :]
         y, cb, cr = part[Y_PLACES], part[CB_PLACES], part[CR_PLACES]
     eav, sav = line_report(walk.system, words)
-    return (*ACCEPTED, eav, sav, advanced(walk, words), y, cb, cr)
+    after = advanced(walk, repaired_codes(walk.system, words))
+    return (*ACCEPTED, eav, sav, after, y, cb, cr)
 
 
 def active(walk, words):
@@ -475,7 +480,7 @@ def judge_bytes(walk, data):
     refusal = line_refusal(walk, words)
     if refusal:
         return (*refusal, walk)
-    return (*ACCEPTED, advanced(walk, words))
+    return (*ACCEPTED, advanced(walk, repaired_codes(walk.system, words)))
 
 
 def capture_judge(system, line, lines_read, repairs, data):

@@ -18,6 +18,29 @@ EDGE_WORDS = (
 )  # fmt: skip
 RESERVED_WORDS = (0, 1, 2, 3, 1020, 1021, 1022, 1023)
 
+WRONG_SYSTEMS = (
+    0, 1, 524, 526, 624, 626, 65_536, 65_536 + 525, 65_536 + 625, 2**31 + 625, HIGHEST,
+)  # fmt: skip
+EDGE_LINES = (
+    0, 1, 2, 524, 525, 526, 624, 625, 626, 65_535, 65_536, 65_537, 2**31 + 1, HIGHEST,
+)  # fmt: skip
+EDGE_COUNTS = (
+    (0, 0),
+    (0, 1),
+    (1, 2),
+    (1, 3),
+    (5, HIGHEST),
+    (9_999_999, 0),
+    (9_999_999, 19_999_998),
+    (9_999_999, 19_999_999),
+    (10_000_000, 0),
+    (10_000_000, 20_000_001),
+    (2**31, 0),
+    (2**31 + 1, 2),
+    (HIGHEST, 0),
+    (HIGHEST, HIGHEST),
+)
+
 
 class Choice(NamedTuple):
     """Which of a family are taken: the first ones, and then one in every step."""
@@ -96,6 +119,25 @@ def turning_lines(system):
     ]
 
 
+def chosen_lines():
+    """A line of each system, F and V."""
+    for system in SYSTEMS:
+        for line in line_of_each_kind(system):
+            yield system, line
+
+
+def word_lengths(system):
+    """Lengths of words, the right one first."""
+    due = judge.SYSTEMS[system].words
+    other = next(f.words for n, f in judge.SYSTEMS.items() if n != system)
+    return due, 0, due - 1, due + 1, other
+
+
+def stretched(words, length):
+    """The line cut, or lengthened by more fill."""
+    return (words + judge.FILL)[:length]
+
+
 def changed(words, changes):
     """A copy of a line with other words at some offsets."""
     words = list(words)
@@ -120,6 +162,9 @@ class Source:
     def junk(self, length):
         """Words of any 16 bits."""
         return self.cut(self.any_words, length)
+
+    def junk_bytes(self, size):
+        return self.random.randbytes(size)
 
     def junk_buffers(self):
         """Sample buffers of the right lengths with words of any 16 bits."""
@@ -181,3 +226,10 @@ class Source:
 def samples_of(part):
     """Y, CB and CR of an active part."""
     return [part[judge.Y_PLACES], part[judge.CB_PLACES], part[judge.CR_PLACES]]
+
+
+def line_for(source, system, line):
+    """A clean line for a right system and line number, or else the nearest such."""
+    system = system % 65_536 if system % 65_536 in SYSTEMS else max(SYSTEMS)
+    line %= 65_536
+    return source.written(system, line if line in line_numbers(system) else 1)

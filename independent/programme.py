@@ -52,15 +52,24 @@ def samples_of_row(row):
     return [word >> n & judge.LAST_WORD for word in words_of_row(row) for n in SHIFTS]
 
 
-def row_refusal(row):
-    """Number and place of a row's refusal: 3, 5, 12 in that order."""
-    if len(row) < ROW_BYTES:
-        return (judge.WRONG_LENGTH, 1)
+def spare_refusal(row):
+    """The first word with a spare bit set."""
     for index, word in enumerate(words_of_row(row)):
         if word & SPARE_BITS:
             return (judge.OVER_A_WORD, index)
+    return None
+
+
+def sample_refusal(row):
     place = judge.place_outside(samples_of_row(row))
     return None if place is None else (judge.NOT_A_SAMPLE, place)
+
+
+def row_refusal(row):
+    """Number and place of a row's refusal: 3, 5, 12 in that order."""
+    if len(row) != ROW_BYTES:
+        return (judge.WRONG_LENGTH, 1)
+    return spare_refusal(row) or sample_refusal(row)
 
 
 class Recorder:

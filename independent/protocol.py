@@ -1,15 +1,15 @@
-"""Cases and answers as bytes.
+"""Cases as bytes, and the kinds of cases.
 
 A case is its kind and the size of its payload, both of 32 bits, then the
 payload: the numbers, the length of each slice, the slices. Answers follow one
 another with no header: the numbers, then the slices as they are afterwards.
-All numbers are little-endian; words and samples have 16 bits, all else has 32.
+All are little-endian; words and samples have 16 bits, numbers have 32. A
+number of 64 bits goes as two, the lower one first. Which call each kind is,
+and what it answers, is in kinds.py.
 """
 
 import struct
-from typing import Callable, NamedTuple
-
-from independent import judge
+from typing import NamedTuple
 
 (
     CORRECT,
@@ -22,6 +22,27 @@ from independent import judge
     CAPTURE_CORRECT,
     CAPTURE_JUDGE,
 ) = range(1, 10)
+FOURTH, EXPECTING, CODE_REPORT = range(10, 13)
+(
+    FLAGS,
+    OWN_FRESH,
+    SYSTEM_OF,
+    FIGURES,
+    SYSTEM_FLAGS,
+    REPAIRS,
+    WALK_REFUSAL,
+    STEPPED,
+) = range(20, 28)
+DUE_OF, DUE_FLAGS, DUE_AT, BUFFER_REFUSAL = range(30, 34)
+REFUSED, ACCEPTED, JUDGE, SPLIT = range(40, 44)
+STATE_FRESH = 50
+LENT_JUDGE, TO_WORDS, TO_BYTES = range(60, 63)
+UNPACK, PACK = range(70, 72)
+RECORD, EXTRACT, TAKES_ROW, ENDS_FRAME, PIECE_LINES, ENDS_PIECE, EXTRACT_NEXT = range(80, 87)
+LINE_BYTES, BEGIN, FOLLOW, CLOSE, OUTCOME, FOLLOWS_ON, NEXT = range(90, 97)
+NO_TOTALS, WITH_READ, WITH_UNREAD, TOTAL_LINES, HOURS = range(100, 105)
+TAPE_BEGIN, TURNS, TURNED, TAPE_ENDS, TAPE_NEXT = range(110, 115)
+TELLS, SO_FAR, FILLED_AFTER = range(120, 123)
 
 
 class Case(NamedTuple):
@@ -33,37 +54,8 @@ class Case(NamedTuple):
     arguments: tuple
 
 
-class Kind(NamedTuple):
-    """A judge's call, the names of its arguments and of the numbers it answers."""
-
-    call: Callable
-    parameters: tuple
-    heads: tuple
-
-
-def counted_active(walk, words):
-    part = judge.active(walk, words)
-    return len(part), part
-
-
-WALK = ("system", "line", "lines_read", "repairs")
-ANSWER = ("number", "place")
-STATE = ("bits", "last")
-SAMPLES = ("y", "cb", "cr")
-
-KINDS = {
-    CORRECT: Kind(judge.correct, ("word",), ("tag", "fvh", "bit", "number")),
-    FRESH: Kind(judge.fresh, ("system", "line"), (*ANSWER, *WALK)),
-    READ: Kind(
-        judge.read, ("walk", "words", *SAMPLES), (*ANSWER, "eav", "sav", *WALK)
-    ),
-    ACTIVE: Kind(counted_active, ("walk", "words"), ("count",)),
-    WRITE: Kind(judge.write, ("system", "line", *SAMPLES, "words"), ANSWER),
-    CODE: Kind(judge.code, (*STATE, "words", "out"), (*ANSWER, *STATE)),
-    DECODE: Kind(judge.decode, (*STATE, "words", "out"), (*ANSWER, *STATE)),
-    CAPTURE_CORRECT: Kind(judge.capture_correct, ("word",), ("answer",)),
-    CAPTURE_JUDGE: Kind(judge.capture_judge, (*WALK, "data"), ("answer",)),
-}
+class Wide(int):
+    """A number of 64 bits."""
 
 
 def pack_numbers(*numbers):
@@ -81,16 +73,23 @@ def pack_slices(slices):
     return b"".join(map(pack_slice, slices))
 
 
+def flat(value):
+    """The numbers of 32 bits of a number or a record."""
+    if isinstance(value, tuple):
+        return [number for part in value for number in flat(part)]
+    if isinstance(value, Wide):
+        return [value % 2**32, value >> 32]
+    return [value]
+
+
 def parted(values):
-    """The numbers, those of a walk among them, and the slices."""
+    """The numbers, those of records among them, and the slices."""
     numbers, slices = [], []
     for value in values:
-        if isinstance(value, int):
-            numbers.append(value)
-        elif isinstance(value, tuple):
-            numbers.extend(value)
-        else:
+        if isinstance(value, (bytes, list)):
             slices.append(value)
+        else:
+            numbers.extend(flat(value))
     return numbers, slices
 
 
@@ -98,50 +97,3 @@ def case_bytes(case):
     numbers, slices = parted(case.arguments)
     payload = pack_numbers(*numbers, *map(len, slices)) + pack_slices(slices)
     return pack_numbers(case.kind, len(payload)) + payload
-
-
-def expected_answer(case):
-    result = KINDS[case.kind].call(*case.arguments)
-    numbers, slices = parted(result if isinstance(result, tuple) else (result,))
-    return pack_numbers(*numbers) + pack_slices(slices)
-
-
-def answer_size(case, expected, answers, start):
-    """The size of the answer that starts there; an active part brings its own count."""
-    if case.kind != ACTIVE or len(answers) < start + 4:
-        return len(expected)
-    return 4 + 2 * struct.unpack_from("<I", answers, start)[0]
-
-
-def shown(name, argument):
-    """An argument as text, a slice by its length."""
-    if isinstance(argument, (bytes, list)):
-        return f"{name}[{len(argument)}]"
-    return f"{name} {tuple(argument) if isinstance(argument, tuple) else argument}"
-
-
-def shown_call(case):
-    call, parameters, _ = KINDS[case.kind]
-    return f"{call.__name__}: {', '.join(map(shown, parameters, case.arguments))}"
-
-
-def shown_answer(case, answer):
-    """The numbers of an answer as text, and how many words follow them."""
-    heads = KINDS[case.kind].heads
-    if len(answer) < 4 * len(heads):
-        return f"no whole answer, {len(answer)} bytes"
-    numbers = struct.unpack_from(f"<{len(heads)}I", answer)
-    text = ", ".join(f"{name} {number}" for name, number in zip(heads, numbers))
-    return f"{text}, then {(len(answer) - 4 * len(heads)) // 2} words"
-
-
-def first_difference(case, expected, got):
-    """The first word after the numbers at which two answers of one size differ, or None."""
-    start = 4 * len(KINDS[case.kind].heads)
-    if len(expected) != len(got):
-        return None
-    pairs = zip(judge.words_of(expected[start:]), judge.words_of(got[start:]))
-    for index, (due, given) in enumerate(pairs):
-        if due != given:
-            return f"word {index} after the numbers: expected {due}, got {given}"
-    return None

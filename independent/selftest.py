@@ -5,7 +5,7 @@ Run: python3 -m independent.selftest
 
 import sys
 
-from independent import command_selftest, judge, programme
+from independent import calls_selftest, command_selftest, judge, programme
 from independent.material import changed, fourth_offsets
 from independent.protocol import pack_slice
 from independent.runs import header
@@ -259,6 +259,7 @@ GROUPS = (
     confirmed_runs,
     *programme.GROUPS,
     *command_selftest.GROUPS,
+    *calls_selftest.GROUPS,
 )
 
 

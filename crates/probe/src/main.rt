@@ -1,27 +1,23 @@
 // Every public call, asked by cases on standard input and answered on standard output, so that another program can compare.
 // A case is its kind and the size of its payload, both of 32 bits, then the payload. Answers follow one another with no header.
 // A case that is none ends the program.
-mod answer;
-mod coding;
-mod correction;
-mod payload;
-mod reading;
-mod writing;
-
 ghost use mathlib.Core.Path.{_≡_};
 ghost use Prim.Native.Nat.{_+_, _≤_};
 ghost use lib.ListN.{length};
-use crate::payload::count;
-use crate::payload::number;
+use cases::count;
+use cases::number;
 use libc::STDIN_FILENO;
 use libc::STDOUT_FILENO;
 
 // No answer is longer than the coder's: four numbers and its output.
-const LONGEST_ANSWER: usize = 16 + 2 * coding::LONGEST;
+const LONGEST_ANSWER: usize = 16 + 2 * line_cases::LONGEST;
 
 const HEADER: usize = 8;
 
 const BUFFER: usize = 524_288;
+
+// The kinds from this one on are calls on bytes.
+const FIRST_ON_BYTES: u32 = 60;
 
 // The bytes at..have of the input are read and not answered yet; the first bytes of the output, `told` of them, are not written yet.
 struct Stream {
@@ -38,18 +34,11 @@ fn answer_case(case: &[u8], answer: &mut [u8]) -> usize {
         return 0;
     }
     let payload = &case[HEADER..];
-    match number(case, 0) {
-        1 => correction::correct(payload, answer),
-        2 => reading::fresh(payload, answer),
-        3 => reading::read(payload, answer),
-        4 => reading::active(payload, answer),
-        5 => writing::write(payload, answer),
-        6 => coding::code(false, payload, answer),
-        7 => coding::code(true, payload, answer),
-        8 => correction::capture_correct(payload, answer),
-        9 => reading::capture_judge(payload, answer),
-        _ => 0,
+    let kind = number(case, 0);
+    if kind < FIRST_ON_BYTES {
+        return line_cases::answer_case(kind, payload, answer);
     }
+    recording_cases::answer_case(kind, payload, answer)
 }
 
 // How many bytes the case at the start of these takes with its header: 0 where they do not hold the whole case yet.

@@ -3,8 +3,8 @@ use Prim.Native.Nat.{_≤_, _-_}
 use mathlib.Core.Path.{_≡_}
 use borrow.Author.Needs.{needs}
 use lib.ListN.{length}
-use Rattle.probe.proofs.payload.take_words.Statement.{statement}
-use Rattle.probe.proofs.payload.take_words.Tie as tie
+use Rattle.cases.proofs.payload.take_words.Statement.{statement}
+use Rattle.cases.proofs.payload.take_words.Tie as tie
 
 abbrev Inv-loop : tie.InvT-loop
 Inv-loop payload at words₀ k₀ k-end words k = (k ≤ k-end) × (k-end ≡ length words₀) × (length words ≡ length words₀)

@@ -1,15 +1,28 @@
-// The serial coder and decoder.
-use crate::answer::put_number;
-use crate::answer::put_place;
-use crate::answer::put_words;
-use crate::payload::count;
-use crate::payload::number;
-use crate::payload::take_words;
+// The crate serial.
+use cases::count;
+use cases::number;
+use cases::put_number;
+use cases::put_place;
+use cases::put_words;
+use cases::take_words;
 use serial::Answer;
 use serial::State;
 
 // The longest slice that is coded: a little over the limit of the coder.
-pub(crate) const LONGEST: usize = 65_540;
+pub const LONGEST: usize = 65_540;
+
+fn put_state(answer: &mut [u8], at: usize, state: State) -> usize {
+    let at_last = put_number(answer, at, state.scrambled);
+    put_number(answer, at_last, state.last)
+}
+
+// State::fresh.
+pub(crate) fn fresh(payload: &[u8], answer: &mut [u8]) -> usize {
+    if payload.len() != 0 {
+        return 0;
+    }
+    put_state(answer, 0, State::fresh())
+}
 
 fn called(is_decoding: bool, state: State, words: &[u16], out: &mut [u16]) -> Answer {
     if is_decoding {
@@ -19,11 +32,9 @@ fn called(is_decoding: bool, state: State, words: &[u16], out: &mut [u16]) -> An
 }
 
 fn put_coded(answer: &mut [u8], coded: Answer) -> usize {
-    let after = coded.state;
     let at_place = put_number(answer, 0, coded.number);
-    let at_bits = put_place(answer, at_place, coded.place);
-    let at_last = put_number(answer, at_bits, after.scrambled);
-    put_number(answer, at_last, after.last)
+    let at_state = put_place(answer, at_place, coded.place);
+    put_state(answer, at_state, coded.state)
 }
 
 // serial::code or serial::decode, on slices of the lengths that the payload tells.

@@ -3,8 +3,8 @@ use Prim.Native.Nat.{_≤_, _-_}
 use mathlib.Core.Path.{_≡_}
 use borrow.Author.Needs.{needs}
 use lib.ListN.{length}
-use Rattle.probe.proofs.answer.put_words.Statement.{statement}
-use Rattle.probe.proofs.answer.put_words.Tie as tie
+use Rattle.cases.proofs.answer.put_words.Statement.{statement}
+use Rattle.cases.proofs.answer.put_words.Tie as tie
 
 abbrev Inv-loop : tie.InvT-loop
 Inv-loop answer₀ at words k₀ k-end answer k = (k ≤ length words) × (length answer ≡ length answer₀)

@@ -1,0 +1,248 @@
+"""The kinds of cases: what each calls, and what the answer tells."""
+
+import struct
+from typing import Callable, NamedTuple
+
+from independent import calls, judge, protocol
+
+
+class Kind(NamedTuple):
+    """A call of the model, the names of its arguments and of the numbers it answers."""
+
+    call: Callable
+    parameters: tuple
+    heads: tuple
+
+
+def counted_active(walk, words):
+    part = judge.active(walk, words)
+    return len(part), part
+
+
+WALK = ("system", "line", "lines_read", "repairs")
+ANSWER = ("number", "place")
+CORRECTION = ("tag", "fvh", "bit", "number")
+REPORT = ("eav", "eav bit", "sav", "sav bit")
+JUDGEMENT = (*ANSWER, *REPORT, *WALK)
+STATE = ("bits", "last")
+SAMPLES = ("y", "cb", "cr")
+DUE = ("system", "f", "v", "even", "odd")
+RUN = ("system", "start", *(f"walk's {name}" for name in WALK), *ANSWER)
+OUTCOME = ("system", "start", "lines", "repairs", "number", "line", "place")
+TAPE = (*(f"walk's {name}" for name in WALK), "most", *ANSWER)
+
+
+def wide(*names):
+    """The names of the two parts of each number of 64 bits."""
+    return tuple(f"{name}, {part}" for name in names for part in ("low", "high"))
+
+
+TOTALS = wide("files", "lines525", "lines625", "repairs", "refused", "unread")
+TOLD = ("tag", *wide("count"))
+FILLED = (*wide("have"), "done", "failed")
+
+LINES = {
+    protocol.CORRECT: Kind(judge.correct, ("word",), CORRECTION),
+    protocol.FRESH: Kind(judge.fresh, ("system", "line"), (*ANSWER, *WALK)),
+    protocol.READ: Kind(calls.read, ("walk", "words", *SAMPLES), JUDGEMENT),
+    protocol.ACTIVE: Kind(counted_active, ("walk", "words"), ("count",)),
+    protocol.WRITE: Kind(judge.write, ("system", "line", *SAMPLES, "words"), ANSWER),
+    protocol.CODE: Kind(judge.code, (*STATE, "words", "out"), (*ANSWER, *STATE)),
+    protocol.DECODE: Kind(judge.decode, (*STATE, "words", "out"), (*ANSWER, *STATE)),
+    protocol.CAPTURE_CORRECT: Kind(judge.capture_correct, ("word",), ("answer",)),
+    protocol.CAPTURE_JUDGE: Kind(judge.capture_judge, (*WALK, "data"), ("answer",)),
+}
+
+SHARED = {
+    protocol.FOURTH: Kind(calls.fourth, ("fvh",), ("word",)),
+    protocol.EXPECTING: Kind(calls.correct_expecting, ("word", "fvh"), CORRECTION),
+    protocol.CODE_REPORT: Kind(calls.code_report, CORRECTION, ("tag", "bit")),
+    protocol.FLAGS: Kind(calls.flags, ("line",), ("525 v", "525 f", "625 v", "625 f")),
+    protocol.OWN_FRESH: Kind(judge.fresh, ("system", "start"), (*ANSWER, *WALK)),
+    protocol.SYSTEM_OF: Kind(calls.system_of, ("number",), ("system",)),
+    protocol.FIGURES: Kind(calls.figures, ("system",), ("words", "sav", "lines")),
+    protocol.SYSTEM_FLAGS: Kind(calls.system_flags, ("system", "line"), ("v", "f")),
+    protocol.REPAIRS: Kind(calls.repairs, ("report",), ("repairs",)),
+    protocol.WALK_REFUSAL: Kind(calls.walk_refusal, ("walk",), ANSWER),
+    protocol.STEPPED: Kind(calls.stepped, ("walk", "report"), WALK),
+    protocol.DUE_OF: Kind(calls.due_of, ("system", "line"), DUE),
+    protocol.DUE_FLAGS: Kind(calls.due_flags, ("due", "h"), ("fvh",)),
+    protocol.DUE_AT: Kind(calls.due_at, ("due", "offset"), ("what", "value")),
+    protocol.BUFFER_REFUSAL: Kind(calls.buffer_refusal, SAMPLES, ANSWER),
+    protocol.REFUSED: Kind(calls.refused, ("walk", *ANSWER), JUDGEMENT),
+    protocol.ACCEPTED: Kind(calls.accepted, ("walk", "report"), JUDGEMENT),
+    protocol.JUDGE: Kind(calls.judged, ("walk", "words"), JUDGEMENT),
+    protocol.SPLIT: Kind(calls.split, ("part", *SAMPLES), ANSWER),
+    protocol.LENT_JUDGE: Kind(calls.lent_judge, ("walk", "data"), JUDGEMENT),
+    protocol.TO_WORDS: Kind(calls.to_words, ("data", "words"), ANSWER),
+    protocol.TO_BYTES: Kind(calls.to_bytes, ("words", "data"), ANSWER),
+    protocol.STATE_FRESH: Kind(calls.fresh_state, (), STATE),
+}
+
+PROGRAMMES = {
+    protocol.UNPACK: Kind(calls.unpack, ("row", "samples"), ANSWER),
+    protocol.PACK: Kind(calls.pack, ("samples", "row"), ANSWER),
+    protocol.RECORD: Kind(calls.record, ("walk", "row", "line"), JUDGEMENT),
+    protocol.EXTRACT: Kind(calls.extract, ("walk", "data", "row"), JUDGEMENT),
+    protocol.TAKES_ROW: Kind(calls.takes_row, ("walk",), ("takes",)),
+    protocol.ENDS_FRAME: Kind(calls.ends_frame, ("walk",), ("ends",)),
+    protocol.PIECE_LINES: Kind(calls.piece_lines, ("system", "frames"), ("lines",)),
+    protocol.ENDS_PIECE: Kind(calls.ends_piece, ("walk", "most"), ("ends",)),
+    protocol.EXTRACT_NEXT: Kind(calls.extract_next, ("run", "data", "row"), (*RUN, "gives")),
+    protocol.TAPE_BEGIN: Kind(calls.begin_tape, ("system", "start", "most"), TAPE),
+    protocol.TURNS: Kind(calls.turns, ("tape",), ("turns",)),
+    protocol.TURNED: Kind(calls.turned, ("tape",), TAPE),
+    protocol.TAPE_ENDS: Kind(calls.tape_ends, ("tape",), ("ends",)),
+    protocol.TAPE_NEXT: Kind(calls.tape_next, ("tape", "row", "line"), TAPE),
+    protocol.LINE_BYTES: Kind(calls.line_bytes, ("walk",), ("bytes",)),
+    protocol.BEGIN: Kind(calls.begin, ("header",), RUN),
+    protocol.NEXT: Kind(calls.with_line, ("run", "data"), RUN),
+    protocol.FOLLOW: Kind(calls.follow, ("run", "data"), (*RUN, "taken")),
+    protocol.CLOSE: Kind(calls.close, ("run", "data"), RUN),
+    protocol.OUTCOME: Kind(calls.outcome, ("run",), OUTCOME),
+    protocol.FOLLOWS_ON: Kind(calls.follows_on, ("before", "run"), ("follows",)),
+    protocol.NO_TOTALS: Kind(calls.no_totals, (), TOTALS),
+    protocol.WITH_READ: Kind(calls.with_read, ("totals", "outcome"), TOTALS),
+    protocol.WITH_UNREAD: Kind(calls.with_unread, ("totals",), TOTALS),
+    protocol.TOTAL_LINES: Kind(calls.total_lines, ("totals",), wide("lines")),
+    protocol.HOURS: Kind(calls.hours, ("totals",), wide("parts")),
+}
+
+ARRIVALS = {
+    protocol.TELLS: Kind(calls.tells, ("got", "room"), TOLD),
+    protocol.SO_FAR: Kind(calls.so_far, ("have",), FILLED),
+    protocol.FILLED_AFTER: Kind(calls.filled_after, ("filled", "told", "room"), FILLED),
+}
+
+KINDS = {**LINES, **SHARED, **PROGRAMMES, **ARRIVALS}
+
+# The library's calls that each kind asks, by crate and name.
+ASKED = {
+    protocol.CORRECT: ("timing::correct",),
+    protocol.FRESH: ("system::fresh_walk",),
+    protocol.READ: ("reader::read",),
+    protocol.ACTIVE: ("reader::active",),
+    protocol.WRITE: ("writer::write",),
+    protocol.CODE: ("serial::code",),
+    protocol.DECODE: ("serial::decode",),
+    protocol.CAPTURE_CORRECT: ("capture::fiskrogn_correct",),
+    protocol.CAPTURE_JUDGE: ("capture::fiskrogn_judge",),
+    protocol.FOURTH: ("timing::fourth",),
+    protocol.EXPECTING: ("timing::correct_expecting",),
+    protocol.CODE_REPORT: ("timing::code_report",),
+    protocol.FLAGS: (
+        "system::System525::v",
+        "system::System525::f",
+        "system::System625::v",
+        "system::System625::f",
+    ),
+    protocol.OWN_FRESH: ("system::System525::fresh_walk", "system::System625::fresh_walk"),
+    protocol.SYSTEM_OF: ("system::system_of",),
+    protocol.FIGURES: (
+        "system::System::line_length",
+        "system::System::sav_offset",
+        "system::System::line_count",
+    ),
+    protocol.SYSTEM_FLAGS: ("system::System::v", "system::System::f"),
+    protocol.REPAIRS: ("system::repairs",),
+    protocol.WALK_REFUSAL: ("system::Walk::refusal",),
+    protocol.STEPPED: ("system::Walk::stepped",),
+    protocol.DUE_OF: ("line::Due::of",),
+    protocol.DUE_FLAGS: ("line::Due::flags",),
+    protocol.DUE_AT: ("line::Due::at",),
+    protocol.BUFFER_REFUSAL: ("line::buffer_refusal",),
+    protocol.REFUSED: ("reader::Judgement::refused",),
+    protocol.ACCEPTED: ("reader::Judgement::accepted",),
+    protocol.JUDGE: ("reader::judge",),
+    protocol.SPLIT: ("reader::split",),
+    protocol.LENT_JUDGE: ("lent::judge",),
+    protocol.TO_WORDS: ("lent::to_words",),
+    protocol.TO_BYTES: ("lent::to_bytes",),
+    protocol.STATE_FRESH: ("serial::State::fresh",),
+    protocol.UNPACK: ("v210::unpack",),
+    protocol.PACK: ("v210::pack",),
+    protocol.RECORD: ("programme::record",),
+    protocol.EXTRACT: ("programme::extract",),
+    protocol.TAKES_ROW: ("programme::takes_row",),
+    protocol.ENDS_FRAME: ("programme::ends_frame",),
+    protocol.PIECE_LINES: ("programme::piece_lines",),
+    protocol.ENDS_PIECE: ("programme::ends_piece",),
+    protocol.EXTRACT_NEXT: ("programme::extract_next",),
+    protocol.TAPE_BEGIN: ("programme::Tape::begin",),
+    protocol.TURNS: ("programme::Tape::turns",),
+    protocol.TURNED: ("programme::Tape::turned",),
+    protocol.TAPE_ENDS: ("programme::Tape::ends",),
+    protocol.TAPE_NEXT: ("programme::Tape::next",),
+    protocol.LINE_BYTES: ("confirmation::line_bytes",),
+    protocol.BEGIN: ("confirmation::Run::begin",),
+    protocol.NEXT: ("confirmation::Run::next",),
+    protocol.FOLLOW: ("confirmation::Run::follow",),
+    protocol.CLOSE: ("confirmation::Run::close",),
+    protocol.OUTCOME: ("confirmation::Run::outcome",),
+    protocol.FOLLOWS_ON: ("confirmation::follows_on",),
+    protocol.NO_TOTALS: ("confirmation::Totals::none",),
+    protocol.WITH_READ: ("confirmation::Totals::with_read",),
+    protocol.WITH_UNREAD: ("confirmation::Totals::with_unread",),
+    protocol.TOTAL_LINES: ("confirmation::Totals::lines",),
+    protocol.HOURS: ("confirmation::Totals::hours",),
+    protocol.TELLS: ("intake::tells",),
+    protocol.SO_FAR: ("intake::Filled::so_far",),
+    protocol.FILLED_AFTER: ("intake::Filled::after",),
+}
+
+# Crates and calls that no kind asks, and why.
+NOT_ASKED = {
+    **dict.fromkeys(("cases", "line_cases", "recording_cases", "probe"), "the probe itself"),
+    **dict.fromkeys(
+        ("console", "folder", "confirm", "station", "verbs", "command"),
+        "what the system has: compared as the command",
+    ),
+    "speed": "reader, writer and serial once more, for the benchmark only",
+}
+
+
+def expected_answer(case):
+    result = KINDS[case.kind].call(*case.arguments)
+    values = result if isinstance(result, tuple) else (result,)
+    numbers, slices = protocol.parted(values)
+    return protocol.pack_numbers(*numbers) + protocol.pack_slices(slices)
+
+
+def answer_size(case, expected, answers, start):
+    """The size of the answer that starts there; an active part brings its own count."""
+    if case.kind != protocol.ACTIVE or len(answers) < start + 4:
+        return len(expected)
+    return 4 + 2 * struct.unpack_from("<I", answers, start)[0]
+
+
+def shown(name, argument):
+    """An argument as text, a slice by its length."""
+    if isinstance(argument, (bytes, list)):
+        return f"{name}[{len(argument)}]"
+    return f"{name} {tuple(argument) if isinstance(argument, tuple) else argument}"
+
+
+def shown_call(case):
+    call, parameters, _ = KINDS[case.kind]
+    return f"{call.__name__}: {', '.join(map(shown, parameters, case.arguments))}"
+
+
+def shown_answer(case, answer):
+    """The numbers of an answer as text, and how many bytes follow them."""
+    heads = KINDS[case.kind].heads
+    if len(answer) < 4 * len(heads):
+        return f"no whole answer, {len(answer)} bytes"
+    numbers = struct.unpack_from(f"<{len(heads)}I", answer)
+    text = ", ".join(f"{name} {number}" for name, number in zip(heads, numbers))
+    return f"{text}, then {len(answer) - 4 * len(heads)} bytes"
+
+
+def first_difference(case, expected, got):
+    """The first byte after the numbers at which two answers of one size differ, or None."""
+    start = 4 * len(KINDS[case.kind].heads)
+    if len(expected) != len(got):
+        return None
+    for index, (due, given) in enumerate(zip(expected[start:], got[start:])):
+        if due != given:
+            return f"byte {index} after the numbers: expected {due}, got {given}"
+    return None
