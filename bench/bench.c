@@ -1,5 +1,6 @@
-/* The speed of Fiskrogn beside memcpy and plain C, measured side by side in one run. Prints ratios, never times.
- * usage: bench [MIB]    how much material to stream, 40 MiB unless told; with 1 it is a test of correctness.
+/* The speed of Fiskrogn beside memcpy and plain C, measured side by side in one run. Prints ratios, never times. Before a table is measured
+ * every result of its rows is compared with plain C's.
+ * usage: bench [MIB]    how much material to stream, 40 MiB unless told; with 1 it is a test of that comparison.
  *        bench record SYSTEM START LINES clean|repaired    a recording to standard output, with one bit inverted in no code or in each. */
 #include "../include/fiskrogn.h"
 
@@ -25,7 +26,7 @@ typedef struct {
 
 static const System systems[] = {{525, 1716, 272, 525}, {625, 1728, 284, 625}};
 
-/* ---- the material of one system: lines in turn, written by us, of random samples */
+/* ---- the material of one system: lines in turn, written by plain C, of random samples */
 static const System *now;
 static uint16_t *store, *target;
 static size_t count; /* lines */
@@ -46,16 +47,7 @@ static void check(int right, const char *what) {
     }
 }
 
-static void fill_store(void) {
-    for (size_t i = 0; i < 720; i++) y[i] = sample();
-    for (size_t i = 0; i < 360; i++) cb[i] = sample(), cr[i] = sample();
-    for (size_t k = 0; k < count; k++) {
-        uint32_t n = speed_write(now->system, number_of(k), y, 720, cb, 360, cr, 360, store + k * now->words, now->words);
-        check(n == 0, "a line is written");
-    }
-}
-
-/* ---- what C does instead: the same judgement of a clean line, leaving at the first fault, and in two passes */
+/* ---- what C does instead: the same words, and the same judgement of a clean line, leaving at the first fault, and in two passes */
 static uint16_t fourth(const System *s, uint32_t line, int h) {
     int f = s->system == 525 ? line >= 266 || line <= 3 : line >= 313;
     int v = s->system == 525 ? line <= 19 || (line >= 264 && line <= 282) : line >= 624 || line <= 22 || (line >= 311 && line <= 335);
@@ -67,6 +59,19 @@ static int code_differs(const uint16_t *w, uint16_t due) {
 }
 
 static int is_blank(const System *s, uint32_t line) { return fourth(s, line, 0) >> 7 & 1; }
+
+static void plain_code(uint16_t *w, uint16_t last) { w[0] = 1023, w[1] = 0, w[2] = 0, w[3] = last; }
+
+static void plain_write(const System *s, uint32_t line, uint16_t *w) {
+    for (size_t i = 0; i < s->words; i++) w[i] = i % 2 ? 64 : 512;
+    plain_code(w, fourth(s, line, 1));
+    plain_code(w + s->sav, fourth(s, line, 0));
+    if (is_blank(s, line)) return;
+    for (size_t i = 0; i < 360; i++) {
+        uint16_t *group = w + s->sav + 4 + 4 * i;
+        group[0] = cb[i], group[1] = y[2 * i], group[2] = cr[i], group[3] = y[2 * i + 1];
+    }
+}
 
 static uint32_t plain_judge(const System *s, uint32_t line, const uint16_t *w) {
     if (code_differs(w, fourth(s, line, 1)) || code_differs(w + s->sav, fourth(s, line, 0))) return 1;
@@ -109,6 +114,34 @@ OVER_LINES(judge_words, speed_judge(now->system, line, words, now->words))
 OVER_LINES(judge_bytes, fiskrogn_judge(now->system, line, 0, 0, (const uint8_t *)words, 2 * now->words))
 OVER_LINES(read_lines, speed_read(now->system, line, words, now->words, y, 720, cb, 360, cr, 360))
 OVER_LINES(write_lines, speed_write(now->system, line, y, 720, cb, 360, cr, 360, target + (words - store), now->words))
+
+/* ---- what is compared before it is timed: lines are written as C writes them, judged as C judges them, and read as what was written */
+static void fill_store(void) {
+    for (size_t i = 0; i < 720; i++) y[i] = sample();
+    for (size_t i = 0; i < 360; i++) cb[i] = sample(), cr[i] = sample();
+    for (size_t k = 0; k < count; k++) plain_write(now, number_of(k), store + k * now->words);
+}
+
+static void compare_line(const System *s, uint32_t line, const uint16_t *words) {
+    uint16_t y_read[720] = {0}, cb_read[360] = {0}, cr_read[360] = {0};
+    int samples = !is_blank(s, line);
+    uint32_t number = plain_judge(s, line, words);
+    check(number == 0 && two_pass_judge(s, line, words) == number, "C judges its own lines");
+    check(speed_judge(s->system, line, words, s->words) == number, "words are judged as C judges them");
+    check(fiskrogn_judge(s->system, line, 0, 0, (const uint8_t *)words, 2 * s->words) == number, "bytes are judged as C judges them");
+    check(speed_read(s->system, line, words, s->words, y_read, 720, cb_read, 360, cr_read, 360) == number, "lines are read as C judges them");
+    for (size_t i = 0; i < 720; i++) check(y_read[i] == samples * y[i], "Y is what C wrote");
+    for (size_t i = 0; i < 360; i++) check(cb_read[i] == samples * cb[i] && cr_read[i] == samples * cr[i], "CB and CR are what C wrote");
+}
+
+static void compare_lines(void) {
+    copy();
+    check(memcmp(target, store, 2 * count * now->words) == 0, "memcpy copies");
+    memset(target, 0, 2 * count * now->words);
+    write_lines();
+    check(memcmp(target, store, 2 * count * now->words) == 0, "lines are written as C writes them");
+    for (size_t k = 0; k < count; k++) compare_line(now, number_of(k), store + k * now->words);
+}
 
 /* ---- serial words: C bit by bit, and word by word with the same two short steps */
 static uint16_t plain_words[RUN], channel_words[RUN], back[RUN];
@@ -197,14 +230,12 @@ static void lines_table(const System *s, size_t mib) {
     now = s;
     count = mib * 1048576 / (2 * s->words);
     fill_store();
-    memcpy(target, store, 2 * count * s->words);
+    compare_lines();
     Row rows[] = {{"memcpy", copy, 0},         {"plain C, first fault", plain_c, 0}, {"C in two passes", two_pass_c, 0},
                   {"judge words", judge_words, 0}, {"judge bytes", judge_bytes, 0},      {"read", read_lines, 0},
                   {"write", write_lines, 0}};
     size_t n = sizeof rows / sizeof *rows;
     measure(rows, n, 1);
-    write_lines();
-    fill_store();
     printf("%u lines            of memcpy   times plain C\n", s->system);
     for (size_t i = 0; i < n; i++) printf("%-22s %8.2f %12.1f\n", rows[i].name, rows[0].best / rows[i].best, rows[1].best / rows[i].best);
 }
@@ -214,16 +245,20 @@ static void serial_table(void) {
     code_bit_by_bit();
     static uint16_t expected[RUN];
     memcpy(expected, channel_words, sizeof expected);
+    memset(channel_words, 0, sizeof channel_words);
     code_word_by_word();
     check(memcmp(expected, channel_words, sizeof expected) == 0, "C by words codes as C by bits");
     memset(channel_words, 0, sizeof channel_words);
     code();
     check(memcmp(expected, channel_words, sizeof expected) == 0, "coding agrees with C by bits");
+    decode_bit_by_bit();
+    check(memcmp(plain_words, back, sizeof back) == 0, "C by bits decodes");
+    memset(back, 0, sizeof back);
     decode_word_by_word();
-    check(memcmp(plain_words, back, sizeof back) == 0, "C by words decodes");
+    check(memcmp(plain_words, back, sizeof back) == 0, "C by words decodes as C by bits");
     memset(back, 0, sizeof back);
     decode();
-    check(memcmp(plain_words, back, sizeof back) == 0, "decoding undoes coding");
+    check(memcmp(plain_words, back, sizeof back) == 0, "decoding agrees with C by bits");
     Row rows[] = {{"code, C by bits", code_bit_by_bit, 0},     {"code, C by words", code_word_by_word, 0},     {"code", code, 0},
                   {"decode, C by bits", decode_bit_by_bit, 0}, {"decode, C by words", decode_word_by_word, 0}, {"decode", decode, 0}};
     measure(rows, 6, 20);
