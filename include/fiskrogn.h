@@ -1,23 +1,11 @@
 /* Fiskrogn for the capture process: two calls, both proved for every argument. Link with -lfiskrogn (pkg-config fiskrogn) where it is
  * installed, or with target/staticlib/libcapture.a of a checkout.
  *
- * Each call answers one 32-bit number. An answer of 65,536 or more is a refusal: its number times 65,536 plus its place.
- *
- *   no.  when                                                      place
- *    1   the system is neither 525 nor 625                         0
- *    2   the line number is outside 1 to 525, or 1 to 625          0
- *    3   the byte count is not twice the line's words              0
- *    4   lines read is 10,000,000 or more, or repairs exceed
- *        twice lines read                                          0
- *    5   a word over 1023                                          its offset
- *    6   one of the first three words of a timing code is wrong    its offset
- *    7   bit 9 of a fourth word is 0                               its offset
- *    8   seven bits with no legal pattern within one bit           its offset
- *    9   the corrected F, V, H are not those due here              its offset
- *   10   fill is due and is not there                              its offset
- *   11   a reserved word where a sample is due                     its offset
- *
- * Offsets count words from the start of the line.
+ * Each call answers one 32-bit number. An answer of 65,536 or more is a refusal: its number times 65,536 plus its place. In a few words:
+ * 1 the system, 2 the line number, 3 the byte count, 4 the walk's counts, 5 a word over 1023, 6 one of the first three words of a timing
+ * code, 7 bit 9 of its fourth, 8 no legal code within one bit, 9 not the code due here, 10 no fill, 11 a reserved word for a sample. The
+ * place is 0 from fiskrogn_correct and for 1 to 4; for 5 to 11 it is the word's offset in the line. fiskrogn(3) has the list, and
+ * docs/FORMAT.md of the sources, "Refusal numbers", the one whole table.
  */
 #ifndef FISKROGN_H
 #define FISKROGN_H
