@@ -21,7 +21,7 @@ use Rattle.programme.specs.Record.{partSamples, rowSamples}
 use Rattle.recording.specs.Programme.{rowOf}
 
 -- "CB, Y, CR, Y repeated": the samples of an active part stand in its places
-part-in-place : (part : List ℕ) (j : ℕ) → j < activeLength → sampleAt (partSamples part) j ≡ getD part j 0
+pub part-in-place : (part : List ℕ) (j : ℕ) → j < activeLength → sampleAt (partSamples part) j ≡ getD part j 0
 part-in-place part j l =
     by-test (eqb (j % 2) 1)
     (λ t.

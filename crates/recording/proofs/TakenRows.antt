@@ -7,24 +7,59 @@ use mathlib.Core.List.{List·Memᴰ, List·Memᴰ·head, List·Memᴰ·tail}
 use mathlib.Core.Bool.{Bool, true, false, cond, not, true≢false, _&&_}
 use native.Mathlib.Omega.{arith}
 use lib.Dec.{ltb, eqb}
-use lib.ListN.{length}
-use borrow.Author.Tests.{eqb-true, eq-eqb}
+use lib.ListN.{length, getD}
+use borrow.Author.Tests.{eq-eqb, le-ltb}
 use Rattle.refusal.specs.declared.Refusal.{Refusal}
 use Rattle.refusal.proofs.Cases.{by-test, and-true, not-true}
+use Rattle.refusal.proofs.Firsts.{first-none}
 use Rattle.timing.specs.Report.{cleanReport}
 use Rattle.system.specs.declared.Walk.{Walk}
 use Rattle.system.specs.Figures.{lineLength, systemOf}
 use Rattle.system.specs.Walk.{mostLines, walkRefusal, advancedOf}
 use Rattle.system.proofs.Laws.{Good, good-accepted}
+use Rattle.line.specs.declared.Due.{Due}
+use Rattle.line.specs.Fault.{leastSample, mostSample}
+use Rattle.line.specs.Samples.{activeLength}
 use Rattle.reader.specs.declared.Judgement.{Judgement}
-use Rattle.v210.specs.Row.{rowLength}
+use Rattle.writer.specs.Write.{outsideAt, sampleRefusal}
+use Rattle.v210.specs.Row.{packedOf}
+use Rattle.v210.proofs.Theorems.{packed-length, spare-none, packed-accepted, samples-back}
 use Rattle.programme.specs.declared.tape.Tape.{Tape}
-use Rattle.programme.specs.Record.{takesRow, endsFrame, recordedOf, Recordable}
+use Rattle.programme.specs.Record.{takesRow, endsFrame, partSamples, Recordable}
 use Rattle.programme.specs.Tape.{turnsAt, turnedOf, tapedOf, endsAt, Wrote, onto, endOf, mostTurns, recordRows}
 use Rattle.programme.proofs.Records.{recorded-accepted}
 use Rattle.programme.proofs.RecordTheorems.{recordable-accepted}
-use Rattle.recording.specs.Filters.{GoodRow}
+use Rattle.recording.specs.Filters.{GoodRow, GoodRowMet}
+use Rattle.recording.proofs.Rows.{part-in-place}
 use Rattle.recording.proofs.TapedLines.{Sound, taped, advanced, still-sound, turned-walk, sound-there, line-there, next-tape}
+
+-- ---- good rows there are: the row of any samples from 4 to 1019
+module _ (part : List ℕ) (size : length part ≡ activeLength)
+    (range : (place : ℕ) → place < activeLength → (leastSample ≤ getD part place 0) × (getD part place 0 ≤ mostSample)) where
+  small : (place : ℕ) → place < activeLength → getD part place 0 ≤ 1023
+  small place l = omega (arith, range place l .1)
+
+  inside : (place : ℕ) → place < activeLength → outsideAt (partSamples part) place ≡ 0
+  inside place l =
+      rw (part-in-place part place l)
+      (simp (le-ltb (getD part place 0) leastSample (range place l .0), le-ltb mostSample (getD part place 0) (range place l .1)))
+
+  none-outside : (d : Due) → sampleRefusal d (partSamples part) .number ≡ 0
+  unfolding sampleRefusal
+  none-outside d =
+      by-test (d .v) (λ v. simp v)
+      (λ v. simp v (ap (λ (x : Refusal). x .number) (first-none (outsideAt (partSamples part)) activeLength inside)))
+
+  pub good-row : GoodRow (packedOf part)
+  good-row =
+      record {
+        long = packed-length part;
+        spare = ap (λ (x : Refusal). x .number) (sym (spare-none (packedOf part) (packed-length part))) ∙ packed-accepted part size small .1;
+        samples = λ d. ap (λ (row : List ℕ). sampleRefusal d (partSamples row) .number) (samples-back part size small) ∙ none-outside d;
+      }
+
+pub good-row-met : GoodRowMet
+good-row-met = good-row
 
 -- what a row is given as, where the awaited line takes it
 abbrev Given : Walk → List ℕ → Type 0

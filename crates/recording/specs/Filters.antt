@@ -7,10 +7,11 @@ use lib.ListN.{length, getD}
 use Rattle.intake.specs.Arrival.{allPieces}
 use Rattle.system.specs.Walk.{mostLines, freshOf}
 use Rattle.line.specs.declared.Due.{Due}
-use Rattle.line.specs.Samples.{Samples}
+use Rattle.line.specs.Fault.{leastSample, mostSample}
+use Rattle.line.specs.Samples.{Samples, activeLength}
 use Rattle.lent.specs.Bytes.{wordsOf, bytesOf}
 use Rattle.writer.specs.Write.{sampleRefusal}
-use Rattle.v210.specs.Row.{rowLength, spareRefusal}
+use Rattle.v210.specs.Row.{rowLength, packedOf, spareRefusal}
 use Rattle.confirmation.specs.Run.{begunOf, confirmedOf}
 use Rattle.programme.specs.Record.{rowSamples}
 use Rattle.programme.specs.Tape.{recordedProgramme}
@@ -42,6 +43,13 @@ pub record GoodRow (row : List ℕ) : Type 0 where
   pub long : length row ≡ rowLength
   pub spare : spareRefusal row .number ≡ 0
   pub samples : (d : Due) → sampleRefusal d (rowSamples row) .number ≡ 0
+
+-- The row of every active part whose samples are 4 to 1019 is one (`good-row-met`).
+abbrev pub GoodRowMet : Type 0
+GoodRowMet =
+    (part : List ℕ) → length part ≡ activeLength
+    → ((place : ℕ) → place < activeLength → (leastSample ≤ getD part place 0) × (getD part place 0 ≤ mostSample))
+    → GoodRow (packedOf part)
 
 -- Of good rows nothing is refused: of up to 15,998, since at most 625 lines are written for each (`programme-taken`).
 abbrev pub ProgrammeTaken : Type 0
