@@ -18,26 +18,33 @@ uint32_t speed_code(const uint16_t *words, size_t count, uint16_t *out, size_t r
 uint32_t speed_decode(const uint16_t *words, size_t count, uint16_t *out, size_t room);
 
 enum { RUN = 65536, ROUNDS = 7 };
+enum { CODE = 4, Y_SAMPLES = 720, C_SAMPLES = 360, LAST_WORD = 1023, FIRST_SAMPLE = 4, LAST_SAMPLE = 1019, EVEN_FILL = 512, ODD_FILL = 64 };
 
 typedef struct {
     uint32_t system;
     size_t words, sav, lines;
 } System;
 
-static const System systems[] = {{525, 1716, 272, 525}, {625, 1728, 284, 625}};
+enum { WORDS_525 = 1716, WORDS_625 = 1728 };
+static const System systems[] = {{525, WORDS_525, 272, 525}, {625, WORDS_625, 284, 625}};
 
 /* ---- the material of one system: lines in turn, written by plain C, of random samples */
 static const System *now;
 static uint16_t *store, *target;
 static size_t count; /* lines */
-static uint16_t y[720], cb[360], cr[360];
+static uint16_t y[Y_SAMPLES], cb[C_SAMPLES], cr[C_SAMPLES];
 
 static uint32_t number_of(size_t k) { return (uint32_t)(k % now->lines + 1); }
 
 static uint16_t sample(void) {
     static uint64_t state = 656;
     state = state * 6364136223846793005u + 1442695040888963407u;
-    return (uint16_t)(4 + (state >> 33) % 1016);
+    return (uint16_t)(FIRST_SAMPLE + (state >> 33) % (LAST_SAMPLE - FIRST_SAMPLE + 1));
+}
+
+static void draw_samples(void) {
+    for (size_t i = 0; i < Y_SAMPLES; i++) y[i] = sample();
+    for (size_t i = 0; i < C_SAMPLES; i++) cb[i] = sample(), cr[i] = sample();
 }
 
 static void check(int right, const char *what) {
@@ -55,20 +62,22 @@ static uint16_t fourth(const System *s, uint32_t line, int h) {
 }
 
 static int code_differs(const uint16_t *w, uint16_t due) {
-    return w[0] < 1020 || w[0] > 1023 || w[1] > 3 || w[2] > 3 || w[3] > 1023 || __builtin_popcount((w[3] ^ due) >> 2) > 1;
+    return w[0] < LAST_WORD - 3 || w[0] > LAST_WORD || w[1] > 3 || w[2] > 3 || w[3] > LAST_WORD || __builtin_popcount((w[3] ^ due) >> 2) > 1;
 }
 
 static int is_blank(const System *s, uint32_t line) { return fourth(s, line, 0) >> 7 & 1; }
 
-static void plain_code(uint16_t *w, uint16_t last) { w[0] = 1023, w[1] = 0, w[2] = 0, w[3] = last; }
+static uint16_t fill(size_t i) { return i % 2 ? ODD_FILL : EVEN_FILL; }
+
+static void plain_code(uint16_t *w, uint16_t last) { w[0] = LAST_WORD, w[1] = 0, w[2] = 0, w[3] = last; }
 
 static void plain_write(const System *s, uint32_t line, uint16_t *w) {
-    for (size_t i = 0; i < s->words; i++) w[i] = i % 2 ? 64 : 512;
+    for (size_t i = 0; i < s->words; i++) w[i] = fill(i);
     plain_code(w, fourth(s, line, 1));
     plain_code(w + s->sav, fourth(s, line, 0));
     if (is_blank(s, line)) return;
-    for (size_t i = 0; i < 360; i++) {
-        uint16_t *group = w + s->sav + 4 + 4 * i;
+    for (size_t i = 0; i < C_SAMPLES; i++) {
+        uint16_t *group = w + s->sav + CODE + 4 * i;
         group[0] = cb[i], group[1] = y[2 * i], group[2] = cr[i], group[3] = y[2 * i + 1];
     }
 }
@@ -76,21 +85,27 @@ static void plain_write(const System *s, uint32_t line, uint16_t *w) {
 static uint32_t plain_judge(const System *s, uint32_t line, const uint16_t *w) {
     if (code_differs(w, fourth(s, line, 1)) || code_differs(w + s->sav, fourth(s, line, 0))) return 1;
     int blank = is_blank(s, line);
-    for (size_t i = 4; i < s->sav; i++)
-        if (w[i] != (i % 2 ? 64 : 512)) return 1;
-    for (size_t i = s->sav + 4; i < s->words; i++) {
-        if (blank ? w[i] != (i % 2 ? 64 : 512) : w[i] < 4 || w[i] > 1019) return 1;
+    for (size_t i = CODE; i < s->sav; i++)
+        if (w[i] != fill(i)) return 1;
+    for (size_t i = s->sav + CODE; i < s->words; i++) {
+        if (blank ? w[i] != fill(i) : w[i] < FIRST_SAMPLE || w[i] > LAST_SAMPLE) return 1;
     }
     return 0;
 }
 
+static unsigned not_fill(const uint16_t *w, size_t start, size_t end) {
+    unsigned bad = 0;
+    for (size_t i = start; i < end; i += 2) bad |= (unsigned)(w[i] ^ EVEN_FILL) | (unsigned)(w[i + 1] ^ ODD_FILL);
+    return bad;
+}
+
 static uint32_t two_pass_judge(const System *s, uint32_t line, const uint16_t *w) {
     unsigned bad = code_differs(w, fourth(s, line, 1)) | code_differs(w + s->sav, fourth(s, line, 0));
-    for (size_t i = 4; i < s->sav; i += 2) bad |= (w[i] ^ 512u) | (w[i + 1] ^ 64u);
+    bad |= not_fill(w, CODE, s->sav);
     if (is_blank(s, line))
-        for (size_t i = s->sav + 4; i < s->words; i += 2) bad |= (w[i] ^ 512u) | (w[i + 1] ^ 64u);
+        bad |= not_fill(w, s->sav + CODE, s->words);
     else
-        for (size_t i = s->sav + 4; i < s->words; i++) bad |= (uint16_t)(w[i] - 4) > 1015;
+        for (size_t i = s->sav + CODE; i < s->words; i++) bad |= (uint16_t)(w[i] - FIRST_SAMPLE) > LAST_SAMPLE - FIRST_SAMPLE;
     return bad ? 1 + plain_judge(s, line, w) : 0;
 }
 
@@ -112,26 +127,26 @@ OVER_LINES(plain_c, plain_judge(now, line, words))
 OVER_LINES(two_pass_c, two_pass_judge(now, line, words))
 OVER_LINES(judge_words, speed_judge(now->system, line, words, now->words))
 OVER_LINES(judge_bytes, fiskrogn_judge(now->system, line, 0, 0, (const uint8_t *)words, 2 * now->words))
-OVER_LINES(read_lines, speed_read(now->system, line, words, now->words, y, 720, cb, 360, cr, 360))
-OVER_LINES(write_lines, speed_write(now->system, line, y, 720, cb, 360, cr, 360, target + (words - store), now->words))
+OVER_LINES(read_lines, speed_read(now->system, line, words, now->words, y, Y_SAMPLES, cb, C_SAMPLES, cr, C_SAMPLES))
+OVER_LINES(write_lines, speed_write(now->system, line, y, Y_SAMPLES, cb, C_SAMPLES, cr, C_SAMPLES, target + (words - store), now->words))
 
 /* ---- what is compared before it is timed: lines are written as C writes them, judged as C judges them, and read as what was written */
 static void fill_store(void) {
-    for (size_t i = 0; i < 720; i++) y[i] = sample();
-    for (size_t i = 0; i < 360; i++) cb[i] = sample(), cr[i] = sample();
+    draw_samples();
     for (size_t k = 0; k < count; k++) plain_write(now, number_of(k), store + k * now->words);
 }
 
 static void compare_line(const System *s, uint32_t line, const uint16_t *words) {
-    uint16_t y_read[720] = {0}, cb_read[360] = {0}, cr_read[360] = {0};
+    uint16_t y_read[Y_SAMPLES] = {0}, cb_read[C_SAMPLES] = {0}, cr_read[C_SAMPLES] = {0};
     int samples = !is_blank(s, line);
     uint32_t number = plain_judge(s, line, words);
     check(number == 0 && two_pass_judge(s, line, words) == number, "C judges its own lines");
     check(speed_judge(s->system, line, words, s->words) == number, "words are judged as C judges them");
     check(fiskrogn_judge(s->system, line, 0, 0, (const uint8_t *)words, 2 * s->words) == number, "bytes are judged as C judges them");
-    check(speed_read(s->system, line, words, s->words, y_read, 720, cb_read, 360, cr_read, 360) == number, "lines are read as C judges them");
-    for (size_t i = 0; i < 720; i++) check(y_read[i] == samples * y[i], "Y is what C wrote");
-    for (size_t i = 0; i < 360; i++) check(cb_read[i] == samples * cb[i] && cr_read[i] == samples * cr[i], "CB and CR are what C wrote");
+    check(speed_read(s->system, line, words, s->words, y_read, Y_SAMPLES, cb_read, C_SAMPLES, cr_read, C_SAMPLES) == number,
+          "lines are read as C judges them");
+    for (size_t i = 0; i < Y_SAMPLES; i++) check(y_read[i] == samples * y[i], "Y is what C wrote");
+    for (size_t i = 0; i < C_SAMPLES; i++) check(cb_read[i] == samples * cb[i] && cr_read[i] == samples * cr[i], "CB and CR are what C wrote");
 }
 
 static void compare_lines(void) {
@@ -240,25 +255,23 @@ static void lines_table(const System *s, size_t mib) {
     for (size_t i = 0; i < n; i++) printf("%-22s %8.2f %12.1f\n", rows[i].name, rows[0].best / rows[i].best, rows[1].best / rows[i].best);
 }
 
+/* a run gives these words, whatever stood where it writes them */
+static void compare_run(void (*run)(void), uint16_t *given, const uint16_t *due, const char *what) {
+    memset(given, 0, RUN * sizeof *given);
+    run();
+    check(memcmp(due, given, RUN * sizeof *given) == 0, what);
+}
+
 static void serial_table(void) {
     for (size_t i = 0; i < RUN; i++) plain_words[i] = (uint16_t)(sample() & 1023);
     code_bit_by_bit();
-    static uint16_t expected[RUN];
-    memcpy(expected, channel_words, sizeof expected);
-    memset(channel_words, 0, sizeof channel_words);
-    code_word_by_word();
-    check(memcmp(expected, channel_words, sizeof expected) == 0, "C by words codes as C by bits");
-    memset(channel_words, 0, sizeof channel_words);
-    code();
-    check(memcmp(expected, channel_words, sizeof expected) == 0, "coding agrees with C by bits");
-    decode_bit_by_bit();
-    check(memcmp(plain_words, back, sizeof back) == 0, "C by bits decodes");
-    memset(back, 0, sizeof back);
-    decode_word_by_word();
-    check(memcmp(plain_words, back, sizeof back) == 0, "C by words decodes as C by bits");
-    memset(back, 0, sizeof back);
-    decode();
-    check(memcmp(plain_words, back, sizeof back) == 0, "decoding agrees with C by bits");
+    static uint16_t coded[RUN];
+    memcpy(coded, channel_words, sizeof coded);
+    compare_run(code_word_by_word, channel_words, coded, "C by words codes as C by bits");
+    compare_run(code, channel_words, coded, "coding agrees with C by bits");
+    compare_run(decode_bit_by_bit, back, plain_words, "C by bits decodes");
+    compare_run(decode_word_by_word, back, plain_words, "C by words decodes as C by bits");
+    compare_run(decode, back, plain_words, "decoding agrees with C by bits");
     Row rows[] = {{"code, C by bits", code_bit_by_bit, 0},     {"code, C by words", code_word_by_word, 0},     {"code", code, 0},
                   {"decode, C by bits", decode_bit_by_bit, 0}, {"decode, C by words", decode_word_by_word, 0}, {"decode", decode, 0}};
     measure(rows, 6, 20);
@@ -271,15 +284,14 @@ static void serial_table(void) {
 
 /* ---- a recording for the confirming program */
 static int write_recording(uint32_t system, uint32_t start, size_t lines, int repaired) {
-    static uint16_t line[1728];
+    static uint16_t line[WORDS_625];
     now = &systems[system == 625];
     uint16_t header[2] = {(uint16_t)system, (uint16_t)start};
     fwrite(header, 2, 2, stdout);
-    for (size_t i = 0; i < 720; i++) y[i] = sample();
-    for (size_t i = 0; i < 360; i++) cb[i] = sample(), cr[i] = sample();
+    draw_samples();
     for (size_t k = 0; k < lines; k++) {
-        check(speed_write(system, number_of(start - 1 + k), y, 720, cb, 360, cr, 360, line, now->words) == 0, "a line is written");
-        if (repaired) line[3] ^= 4, line[now->sav + 3] ^= 256;
+        check(speed_write(system, number_of(start - 1 + k), y, Y_SAMPLES, cb, C_SAMPLES, cr, C_SAMPLES, line, now->words) == 0, "a line is written");
+        if (repaired) line[CODE - 1] ^= 4, line[now->sav + CODE - 1] ^= 256;
         fwrite(line, 2, now->words, stdout);
     }
     return ferror(stdout) != 0;

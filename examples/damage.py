@@ -8,7 +8,7 @@ same recording is always damaged in the same way.
 import sys
 
 from independent.material import Source
-from independent.programme import damaged
+from independent.runs import damaged
 
 if __name__ == "__main__":
     recording = sys.stdin.buffer.read()

@@ -1,49 +1,44 @@
 """Cases of the library's further calls: those that its crates share, and those for programmes."""
 
-from itertools import chain, cycle, product
+from itertools import chain, cycle, product, starmap
 
-from independent import calls, judge, protocol
-from independent.calls import Due, Outcome, Report, Run, Tape, Totals
-from independent.judge import LINES_LIMIT, Walk
-from independent.material import (
-    CODE_BITS,
-    EDGE_COUNTS,
-    EDGE_LINES,
-    EDGE_WORDS,
-    HIGHEST,
-    SYSTEMS,
-    WRONG_SYSTEMS,
-    changed,
-    chosen_lines,
-    edge_offsets,
-    fourth_offsets,
-    inverted,
-    line_after,
-    line_for,
-    line_numbers,
-    plain_and_blank_line,
-    stretched,
-    word_lengths,
-)
-from independent.programme import ROW_BYTES, ROW_WORDS, row_of, with_word
+from independent import judge, protocol
+from independent.due_cases import any_dues
+from independent.edges import ANY_SYSTEMS, EDGE_COUNTS, EDGE_LINES, EDGE_NUMBERS, EDGE_SAMPLES
+from independent.edges import EDGE_SUMS, EDGE_WORDS, HIGHEST, HIGHEST_WIDE, MOSTS, SYSTEMS
+from independent.edges import WRONG_SYSTEMS
+from independent.judge import CLEAN_REPORT, CODE_BITS, LINES_LIMIT, Report, Walk, line_after
+from independent.material import changed, chosen_lines, inverted, line_for
+from independent.material import line_numbers, of_both, word_lengths
+from independent.offered import at_any_walk, every_edge_word, every_inversion, every_offset_spoilt
+from independent.offered import of_any_length
 from independent.protocol import Wide, pack_slice
-from independent.runs import header
+from independent.recordings import Outcome, Run, header, line_bytes
+from independent.rows import ROW_BYTES, ROW_WORDS, row_of, with_word
+from independent.tapes import Tape
+from independent.totals import Totals, no_totals
 
-HIGHEST_WIDE = 2**64 - 1
 BITS = (0, *CODE_BITS, 9, 32, 2**31, HIGHEST)
-ANY_SYSTEMS = (*SYSTEMS, *WRONG_SYSTEMS)
 
 CODE_REPORTS = ((judge.CLEAN, 0), *((judge.REPAIRED, bit) for bit in BITS))
 REPORTS = [Report(*eav, *sav) for eav, sav in product(CODE_REPORTS, CODE_REPORTS)]
 
-# Numbers about those of any refusal, and beyond them.
-EDGE_NUMBERS = (*range(15), 255, 256, 65_536, 2**31, HIGHEST)
-EDGE_SUMS = (0, 1, 2**31, 2**32 - 1, 2**32, 2**63, 2**64 - 2**32, 2**64 - 2, 2**64 - 1)
+# Fourth words of all F, V, H, clean and repaired, and words that are none.
+FOURTHS = (
+    *judge.FOURTH_WORDS, *(word ^ 4 for word in judge.FOURTH_WORDS), 0, 116, 632, 1_023, 1_024,
+    65_535,
+)  # fmt: skip
 
-# Most lines of a recording: none, those of a frame or two, the limit, any.
-MOSTS = (
-    0, 1, 524, 525, 526, 624, 625, 626, 1_050, 1_250, LINES_LIMIT - 1, LINES_LIMIT,
-    LINES_LIMIT + 1, 2**31, HIGHEST,
+# Counts at which 32 bits have no room, or just enough.
+FULL_COUNTS = (
+    (0, 0), (HIGHEST - 1, HIGHEST - 2), (HIGHEST, HIGHEST), (HIGHEST, 0), (0, HIGHEST),
+    (2**31 - 1, HIGHEST - 1),
+)  # fmt: skip
+
+# Lengths about those of both lines, as words and as bytes, and with them in the low half.
+LENGTHS = (
+    0, 1, 1_715, 1_716, 1_717, 1_727, 1_728, 1_729, 3_432, 3_456, 2**31, HIGHEST, 2**32,
+    2**32 + 1_716, 2**32 + 1_728, 2**63, 2**63 + 1_716, HIGHEST_WIDE - 1, HIGHEST_WIDE,
 )  # fmt: skip
 
 # Frames about those of the longest recording, and those whose lines pass 32 bits.
@@ -67,12 +62,11 @@ def any_walks(source):
     """Walks that are taken, and with any of system, line and counts wrong."""
     for system, line, counts in product(ANY_SYSTEMS, (*EDGE_LINES, 20, 23), EDGE_COUNTS):
         yield Walk(system, line, *counts)
-    for system in SYSTEMS:
-        for line in line_numbers(system):
-            yield source.walk(system, line)
-            yield Walk(system, line, 0, 0)
+    for system, line in of_both(line_numbers):
+        yield source.walk(system, line)
+        yield Walk(system, line, 0, 0)
     for _ in range(300):
-        yield Walk(*(source.random.randrange(2**32) for _ in range(4)))
+        yield Walk(*(source.random.randrange(2**32) for _ in Walk._fields))
 
 
 def fourth_words(source):
@@ -120,13 +114,17 @@ def counted_repairs(source):
 
 
 def walks(source):
-    """Any walk, in each call that looks at nothing else."""
+    """Any walk, in each call that looks at it, with any other numbers."""
+    choice, dues = source.random.choice, list(any_dues(source))
     for walk in any_walks(source):
         yield protocol.WALK_REFUSAL, (walk,)
-        yield protocol.STEPPED, (walk, source.random.choice(REPORTS))
-        yield protocol.ACCEPTED, (walk, source.random.choice(REPORTS))
-        refusal = source.random.choice(EDGE_NUMBERS), source.random.choice(EDGE_LINES)
-        yield protocol.REFUSED, (walk, *refusal)
+        yield protocol.WALK_DUE, (walk, choice(FOURTHS))
+        yield protocol.MOVED, (walk, choice(dues), choice(REPORTS))
+        yield protocol.ACCEPTED, (walk, choice(dues), choice(REPORTS))
+        yield protocol.REFUSED, (walk, choice(EDGE_NUMBERS), choice(EDGE_LINES))
+        given, due = choice(LENGTHS), choice(LENGTHS)
+        yield protocol.STANDING, (walk, Wide(given), Wide(due))
+        yield protocol.STANDING, (walk, Wide(due), Wide(due))
         yield protocol.TAKES_ROW, (walk,)
         yield protocol.ENDS_FRAME, (walk,)
         yield protocol.LINE_BYTES, (walk,)
@@ -134,24 +132,46 @@ def walks(source):
 
 def every_report(source):
     for report, (system, line) in product(REPORTS, chosen_lines()):
-        yield protocol.STEPPED, (source.walk(system, line), report)
-        yield protocol.ACCEPTED, (source.walk(system, line), report)
+        due = judge.due_of(system, line)
+        yield protocol.MOVED, (source.walk(system, line), due, report)
+        yield protocol.ACCEPTED, (source.walk(system, line), due, report)
 
 
-def every_due(source):
-    """Each system, F and V with right and any fill, at every offset."""
-    for system, f, v in product(SYSTEMS, (0, 1), (0, 1)):
-        length = judge.SYSTEMS[system].words
-        far = (base + offset for base in (2**16, 2**32, 2**63) for offset in edge_offsets(system))
-        offsets = (*range(length + 9), *far, HIGHEST, HIGHEST_WIDE)
-        right = Due(system, f, v, *judge.FILL[:2])
-        for h in (0, 1):
-            yield protocol.DUE_FLAGS, (right, h)
-        for offset in offsets:
-            yield protocol.DUE_AT, (right, Wide(offset))
-        for offset in (*edge_offsets(system), *offsets[length:], *range(100, length, 97)):
-            yield protocol.DUE_AT, (right._replace(even=offset % 65_536, odd=0), Wide(offset))
-            yield protocol.DUE_AT, (Due(system, f, v, *source.junk(2)), Wide(offset))
+def full_counts(source):
+    """Counts that pass 32 bits, at lines about the last, in any system."""
+    one_code = Report(judge.REPAIRED, 8, judge.CLEAN, 0), Report(judge.CLEAN, 0, judge.REPAIRED, 2)
+    reports = CLEAN_REPORT, *one_code, Report(judge.REPAIRED, 2, judge.REPAIRED, 8)
+    for due, line, counts in product(list(any_dues(source)), EDGE_LINES, FULL_COUNTS):
+        walk = Walk(source.random.choice(ANY_SYSTEMS), line, *counts)
+        yield protocol.MOVED, (walk, due, source.random.choice(reports))
+        yield protocol.ACCEPTED, (walk, due, source.random.choice(reports))
+
+
+def walk_dues(source):
+    """Every line number with its own fourth word and another; some with many."""
+    for system, line in product(SYSTEMS, every_line_number(source)):
+        own = judge.FOURTH_WORDS[judge.due_flags(judge.due_of(system, line), 1)]
+        for fourth in (own, source.random.choice(FOURTHS), source.random.randrange(65_536)):
+            yield protocol.WALK_DUE, (Walk(system, line, *source.counts()), fourth)
+    for (system, line), fourth in product(chosen_lines(), (*FOURTHS, *range(0, 65_536, 257))):
+        yield protocol.WALK_DUE, (source.walk(system, line), fourth)
+
+
+def named_numbers(source):
+    for system, line in product(ANY_SYSTEMS, every_line_number(source)):
+        yield protocol.NAMED, (system, line)
+
+
+def standing_lengths(source):
+    """Any two lengths at walks that are taken, and at those of each refusal."""
+    refused = (
+        Walk(0, 1, 0, 0), Walk(HIGHEST, 0, HIGHEST, HIGHEST), Walk(525, 0, 0, 0),
+        Walk(525, 526, 0, 0), Walk(625, 626, 0, 1), Walk(625, 625, LINES_LIMIT, 0),
+        Walk(525, 525, 0, 1), Walk(625, 1, LINES_LIMIT - 1, 2 * LINES_LIMIT - 1),
+    )  # fmt: skip
+    taken = *starmap(source.walk, chosen_lines()), Walk(625, 625, LINES_LIMIT - 1, 0)
+    for given, due, walk in product(LENGTHS, LENGTHS, (*taken, *refused)):
+        yield protocol.STANDING, (walk, Wide(given), Wide(due))
 
 
 def buffer_lengths(source):
@@ -181,7 +201,7 @@ def judge_words(source, walk, words):
 
 
 def judge_bytes(source, walk, words):
-    return protocol.LENT_JUDGE, (walk, pack_slice(words))
+    return protocol.BYTEWISE_JUDGE, (walk, pack_slice(words))
 
 
 def extract_line(source, walk, words):
@@ -223,57 +243,38 @@ def judgings(source, walk, words):
 
 def judged_lines(source):
     """Every line, clean and with inverted bits."""
-    for system in SYSTEMS:
-        for line in line_numbers(system):
-            words, walk = source.written(system, line), source.walk(system, line)
-            yield from judgings(source, walk, words)
-            mask = inverted(source.random.choice((1, 1, 1, 2)))
-            spoilt = source.with_inversions(system, words, mask)
-            yield from judgings(source, walk, source.low_bits(system, spoilt))
+    for walk, words in source.offered(of_both(line_numbers)):
+        yield from judgings(source, walk, words)
+        mask = inverted(source.random.choice((1, 1, 1, 2)))
+        spoilt = source.with_inversions(walk.system, words, mask)
+        yield from judgings(source, walk, source.low_bits(walk.system, spoilt))
 
 
 def judged_offsets(source):
     """A fault at every offset, the calls in turn."""
     judging = cycle(JUDGING)
-    for system in SYSTEMS:
-        for line in plain_and_blank_line(system):
-            words, walk = source.written(system, line), source.walk(system, line)
-            for offset, word in enumerate(words):
-                for fault in source.over(word), source.wrong(system, line, offset, word):
-                    yield next(judging)(source, walk, changed(words, {offset: fault}))
+    for walk, _, over, wrong in every_offset_spoilt(source):
+        yield next(judging)(source, walk, over)
+        yield next(judging)(source, walk, wrong)
 
 
 def judged_edges(source):
-    """Words about each limit at the first and last offsets of each part."""
-    judging = cycle(JUDGING)
-    for system, line in chosen_lines():
-        words, walk = source.written(system, line), source.walk(system, line)
-        for offset, word in product(edge_offsets(system), EDGE_WORDS):
-            yield next(judging)(source, walk, changed(words, {offset: word}))
+    """Words about each limit at the edges of each part, the calls in turn."""
+    for (walk, words), judging in zip(every_edge_word(source), cycle(JUDGING)):
+        yield judging(source, walk, words)
 
 
 def judged_codes(source):
     """No or one bit inverted in both codes, and every two in one of them."""
-    one_or_none = (0, *inverted(1))
-    for system, line in chosen_lines():
-        words, walk = source.written(system, line), source.walk(system, line)
-        eav, sav = fourth_offsets(system)
-        pairs = product(one_or_none, one_or_none)
-        both = [{eav: words[eav] ^ a, sav: words[sav] ^ b} for a, b in pairs]
-        two = [{code: words[code] ^ mask} for code, mask in product((eav, sav), inverted(2))]
-        for changes in both + two:
-            yield judge_words(source, walk, changed(words, changes))
-            yield judge_bytes(source, walk, changed(words, changes))
-            yield extract_line(source, walk, changed(words, changes))
-            yield extract_next_line(source, walk, changed(words, changes))
+    for walk, words in every_inversion(source, (2,)):
+        for judging in (judge_words, judge_bytes, extract_line, extract_next_line):
+            yield judging(source, walk, words)
 
 
 def judged_walks(source):
     """A good line, and a good row, at any walk."""
     lines = (0, 1, 23, 525, 526, 625, 626, 65_537, HIGHEST)
-    for system, line, counts in product(ANY_SYSTEMS, lines, EDGE_COUNTS):
-        walk = Walk(system, line, *counts)
-        words = line_for(source, system, line)
+    for walk, words in at_any_walk(source, lines):
         yield from judgings(source, walk, words)
         before = source.junk_bytes(2 * len(words))
         yield from recordings_in(source, walk, row_of(source.picture()), before)
@@ -283,27 +284,53 @@ def judged_lengths(source):
     """Lines of wrong length, clean and spoilt; byte counts one off."""
     for system, line in chosen_lines():
         clean = source.written(system, line)
-        for length in (*word_lengths(system), 1, judge.ACTIVE_WORDS, 2_000):
-            for words in (clean, changed(clean, {0: 1_024, 3: 0})):
-                yield from judgings(source, source.walk(system, line), stretched(words, length))
+        lengths = 1, judge.ACTIVE_WORDS, 2_000
+        for walk, words in of_any_length(source, system, line, clean, lengths):
+            yield from judgings(source, walk, words)
         for size in (0, 1, 2 * len(clean) - 1, 2 * len(clean) + 1, 4_000):
             data = (pack_slice(clean) + source.junk_bytes(600))[:size]
             walk, row = source.walk(system, line), source.junk_bytes(ROW_BYTES)
-            yield protocol.LENT_JUDGE, (walk, data)
+            yield protocol.BYTEWISE_JUDGE, (walk, data)
             yield protocol.EXTRACT, (walk, data, row)
             yield protocol.EXTRACT_NEXT, (run_at(walk), data, row)
             yield protocol.NEXT, (run_at(walk), data)
             yield protocol.CLOSE, (run_at(walk), data)
 
 
-def split_parts(source):
-    y, c = judge.Y_SAMPLES, judge.C_SAMPLES
-    parts = (judge.ACTIVE_WORDS, 0, judge.ACTIVE_WORDS - 1, judge.ACTIVE_WORDS + 1)
-    y_lengths, c_lengths = (y, 0, y - 1, y + 1), (c, 0, c - 1, c + 1)
-    for lengths in product(parts, y_lengths, c_lengths, c_lengths):
-        yield protocol.SPLIT, tuple(map(source.junk, lengths))
-    for _ in range(50):
-        yield protocol.SPLIT, (source.picture(), *source.junk_buffers())
+def reserved_words(source):
+    for word in range(65_536):
+        yield protocol.RESERVED, (word,)
+
+
+def joined_words(source):
+    """Every byte as the low and as the high one, and words at edges and any."""
+    choice, edges = source.random.choice, (0, 1, 127, 128, 254, 255)
+    halves = (0, 1, 255, 256, 257, 1_023, 1_024, 32_767, 32_768, 65_534, 65_535)
+    for byte, other in product(range(256), edges):
+        words = choice(halves), source.random.randrange(65_536)
+        yield protocol.WORD_OF, (byte, other, *words)
+        yield protocol.WORD_OF, (other, byte, *reversed(words))
+    for first, second in product(halves, halves):
+        yield protocol.WORD_OF, (*source.random.choices(range(256), k=2), first, second)
+
+
+def words_over(source):
+    """Every word alone; words over 1023 at every place of short runs and at edges of long ones."""
+    yield protocol.FIRST_OVER, ([],)
+    for word in (*range(2_048), *EDGE_WORDS, *range(2_048, 65_536, 61)):
+        yield protocol.FIRST_OVER, ([word],)
+    for length in (*range(2, 20), 31, 32, 33, 63, 64, 65, 1_440, 1_716, 1_728, 2_000):
+        words, last = source.serial_words(length), length - 1
+        yield protocol.FIRST_OVER, (words,)
+        yield protocol.FIRST_OVER, ([judge.LAST_WORD] * length,)
+        yield protocol.FIRST_OVER, (source.junk(length),)
+        near = {0, 1, 7, 8, 15, 16, length // 2, last - 8, last - 1, last}
+        places = range(length) if length <= 65 else sorted(near)
+        for place, high in product(places, (1_024, 2_048, 1_024 + 628, 32_768, 65_535)):
+            one = changed(words, {place: high})
+            yield protocol.FIRST_OVER, (one,)
+            second = source.random.randrange(place, length)
+            yield protocol.FIRST_OVER, (changed(one, {second: 1_024}),)
 
 
 def words_as_bytes(source):
@@ -354,31 +381,28 @@ def recordings_in(source, walk, row, line):
 
 def recordings(source, walk, row):
     """A row offered to a walk that may be right, with room for its line."""
-    size = 2 * judge.SYSTEMS[calls.system_of(walk.system)].words
-    yield from recordings_in(source, walk, row, source.junk_bytes(size))
+    yield from recordings_in(source, walk, row, source.junk_bytes(line_bytes(walk)))
 
 
 def recorded_lines(source):
     """Every line with a row, and with bytes that are none."""
-    for system in SYSTEMS:
-        for line in line_numbers(system):
-            walk = source.walk(system, line)
-            yield from recordings(source, walk, row_of(source.picture()))
-            size = source.random.choice((ROW_BYTES, 7))
-            yield from recordings(source, walk, source.junk_bytes(size))
+    for system, line in of_both(line_numbers):
+        walk = source.walk(system, line)
+        yield from recordings(source, walk, row_of(source.picture()))
+        size = source.random.choice((ROW_BYTES, 7))
+        yield from recordings(source, walk, source.junk_bytes(size))
 
 
 def recorded_rows(source):
     """Spare bits and samples beyond a limit, one and several, at edges and elsewhere."""
     choice, places, lines = source.random.choice, range(judge.ACTIVE_WORDS), list(chosen_lines())
-    values = (0, 3, 4, 1_019, 1_020, 1_023)
     for (system, line), place in product(chosen_lines(), (*places[:7], *places[-7:], 721)):
-        for value in values:
+        for value in EDGE_SAMPLES:
             row = row_of(changed(source.picture(), {place: value}))
             yield from recordings(source, source.walk(system, line), row)
     for _ in range(600):
         system, line = choice(lines)
-        faults = {choice(places): choice(values) for _ in range(choice((1, 2, 3)))}
+        faults = {choice(places): choice(EDGE_SAMPLES) for _ in range(choice((1, 2, 3)))}
         row = row_of(changed(source.picture(), faults))
         if choice((True, False)):
             row = with_word(row, choice(range(ROW_WORDS)), choice((1, 2, 3)) << 30)
@@ -411,7 +435,7 @@ def full_pieces():
     """Walks and most lines: a frame more is at, one below and one over them."""
     counts = (0, 1, 525, 625, 9_999_375, 9_999_376, 9_999_475, LINES_LIMIT, 2**32 - 626, HIGHEST)
     for system, line, lines in product(ANY_SYSTEMS, (0, 1, 2, 65_537, HIGHEST), counts):
-        after = lines + judge.SYSTEMS[calls.system_of(system)].lines
+        after = lines + judge.SYSTEMS[judge.system_of(system)].lines
         for most in {0, 1, lines, after - 1, after, after + 1, LINES_LIMIT, HIGHEST}:
             if most < 2**32:
                 yield Walk(system, line, lines, 0), most
@@ -452,7 +476,7 @@ def followed_runs(source):
     """Lines and what is left of one, judged as they lie ready and at the end."""
     for (system, line), count in product(chosen_lines(), range(5)):
         walk = source.walk(system, line)
-        size = calls.line_bytes(walk)
+        size = line_bytes(walk)
         data = lines_from(source, walk, count + 1)
         for left in (0, 1, 2, 3, size // 2, size - 1):
             yield protocol.FOLLOW, (run_at(walk), data[: count * size + left])
@@ -476,7 +500,7 @@ def runs_at_the_limit(source):
     for (system, line), lines in product(chosen_lines(), counts):
         walk = Walk(system, line, lines, 0)
         data = lines_from(source, walk, 3)
-        size = calls.line_bytes(walk)
+        size = line_bytes(walk)
         for end in (0, 1, size - 1, size, size + 1, 2 * size, 2 * size + 1, 3 * size):
             yield protocol.FOLLOW, (run_at(walk), data[:end])
             yield protocol.CLOSE, (run_at(walk), data[:end])
@@ -523,7 +547,8 @@ def runs_in_row(source):
 
 def begun(source, system, start):
     """A run of these numbers, itself accepted or not."""
-    number, place = source.random.choice(((0, 0), (0, 0), (2, 0), (9, 3)))
+    refusals = (judge.NO_LINE, 0), (judge.NOT_DUE, 3)
+    number, place = source.random.choice((judge.ACCEPTED, judge.ACCEPTED, *refusals))
     return Run(system, start, Walk(system, start, 0, 0), number, place)
 
 
@@ -561,7 +586,7 @@ def hours_of_lines(source):
     halves = [(2_808 - 144 * n, 24 + 143 * n + 5_625 * n) for n in range(20)]
     one_system = *product(of525, (0,)), *product((0,), of625)
     for lines525, lines625 in (*one_system, *zip(of525, of625), *halves):
-        totals = calls.no_totals()._replace(lines525=Wide(lines525), lines625=Wide(lines625))
+        totals = no_totals()._replace(lines525=Wide(lines525), lines625=Wide(lines625))
         yield protocol.HOURS, (totals,)
         yield protocol.TOTAL_LINES, (totals,)
 
@@ -575,7 +600,10 @@ FAMILIES = (
     counted_repairs,
     walks,
     every_report,
-    every_due,
+    full_counts,
+    walk_dues,
+    named_numbers,
+    standing_lengths,
     buffer_lengths,
     judged_lines,
     judged_offsets,
@@ -583,7 +611,9 @@ FAMILIES = (
     judged_codes,
     judged_walks,
     judged_lengths,
-    split_parts,
+    reserved_words,
+    joined_words,
+    words_over,
     words_as_bytes,
     row_lengths,
     row_faults,

@@ -3,38 +3,88 @@
 import re
 from pathlib import Path
 
-from independent import calls, judge, kinds
-from independent.calls import CLEAN_REPORT, Due, Filled, Outcome, Report, Run, Tape, Told, Totals
-from independent.judge import Walk
-from independent.programme import BLACK_ROW, record, with_word
+from independent import calls, judge, kinds, recordings, rows, tapes, totals
+from independent.calls import Filled, Told
+from independent.judge import CLEAN_REPORT, Due, Report, Walk, samples_of
+from independent.probe_files import chosen_cases
+from independent.programme import record
 from independent.protocol import Wide, flat, pack_slice
+from independent.recordings import Outcome, Run, parts
+from independent.rows import BLACK_ROW, with_word
+from independent.tapes import Tape
+from independent.totals import Totals
 
 REPO = Path(__file__).parent.parent
 BOTH_REPAIRED = Report(1, 2, 1, 8)
-STANDING = Walk(625, 23, 10_000_000, 0)
+COUNTED_OUT = Walk(625, 23, 10_000_000, 0)
+
+# A line of fill, and one with a row.
+TWO_LINES = record(625, 22, BLACK_ROW)[0]
 
 
 def shared_calls():
     yield "fourth of 8", [calls.fourth(fvh) for fvh in (7, 8, 13)], [964, 512, 872]
     yield "another expected", calls.correct_expecting(624, 7), (judge.REPAIRED, 1, 2, 0)
-    yield "repaired told", calls.code_report(judge.REPAIRED, 1, 5, 0), (1, 5)
-    yield "refused told", calls.code_report(judge.REFUSED, 1, 5, 8), (0, 0)
+    yield "repaired told", judge.code_report(judge.REPAIRED, 1, 5, 0), (1, 5)
+    yield "refused told", judge.code_report(judge.REFUSED, 1, 5, 8), (0, 0)
     yield "flags", [calls.flags(line) for line in (3, 625)], [(1, 1, 1, 0), (0, 0, 1, 1)]
     yield "flags outside", [calls.flags(line) for line in (0, 626)], [(0, 0, 0, 0)] * 2
-    yield "systems", [calls.system_of(n) for n in (525, 625, 0, 526)], [525, 625, 625, 625]
-    yield "figures", calls.figures(525), (1716, 272, 525)
-    yield "repairs", [calls.repairs(r) for r in (CLEAN_REPORT, BOTH_REPAIRED)], [0, 2]
-    last = Walk(525, 525, 7, 3)
-    yield "stepped", calls.stepped(last, BOTH_REPAIRED), (525, 1, 8, 5)
-    yield "standing", calls.stepped(STANDING, BOTH_REPAIRED), STANDING
-    yield "accepted", calls.accepted(last, CLEAN_REPORT), (0, 0, CLEAN_REPORT, (525, 1, 8, 3))
-    yield "refused", calls.refused(last, 9, 3), (9, 3, (0, 0, 0, 0), last)
+    yield "systems", [judge.system_of(n) for n in (525, 625, 0, 526)], [525, 625, 625, 625]
+    yield "figures of 525", calls.figures(525), (1716, 272, 276, 525)
+    yield "figures of 625", calls.figures(625), (1728, 284, 288, 625)
+    for system, line, told in (
+        (525, 525, (0, 1, 1)), (525, 524, (0, 1, 525)), (625, 525, (0, 1, 526)),
+        (625, 625, (1, 1, 1)), (625, 626, (0, 0, 1)), (525, 2**32 - 1, (0, 0, 1)),
+        (525, 0, (0, 0, 1)),
+    ):  # fmt: skip
+        yield f"line {line} of {system}", calls.system_flags(system, line), told
+    yield "repairs", [judge.repairs(r) for r in (CLEAN_REPORT, BOTH_REPAIRED)], [0, 2]
+    for system, line, refusal in (
+        (525, 525, (0, 0)), (525, 526, (2, 0)), (625, 0, (2, 0)), (625, 625, (0, 0)),
+        (526, 0, (1, 0)),
+    ):  # fmt: skip
+        yield f"named {system}, {line}", calls.named_refusal(system, line), refusal
+    last, due = Walk(525, 525, 7, 3), Due(525, 1, 0, 512, 64)
+    accepted = calls.accepted(last, due, CLEAN_REPORT)
+    yield "accepted", accepted, (0, 0, CLEAN_REPORT, (525, 1, 8, 3))
+    yield "refused", judge.refused(last, 9, 3), (9, 3, (0, 0, 0, 0), last)
+
+
+def moved_walks():
+    due, other = Due(525, 1, 0, 512, 64), Due(7, 0, 1, 3, 4)
+    last, full = Walk(525, 525, 7, 3), Walk(0, 625, 2**32 - 1, 2**32 - 1)
+    yield "moved", calls.moved(last, due, BOTH_REPAIRED), (525, 1, 8, 5)
+    yield "moved as another", calls.moved(last, other, CLEAN_REPORT), (525, 526, 8, 3)
+    yield "moved over 32 bits", calls.moved(full, other, BOTH_REPAIRED), (0, 1, 0, 1)
+    yield "moved from none", calls.moved(Walk(0, 0, 0, 0), due, CLEAN_REPORT), (0, 1, 1, 0)
+    moved = Walk(625, 24, 10_000_001, 2)
+    yield "moved though counted out", calls.moved(COUNTED_OUT, other, BOTH_REPAIRED), moved
+    for walk, given, length_due, refusal in (
+        (last, 1716, 1716, (0, 0)),
+        (last, 2**64 - 1, 2**64 - 1, (0, 0)),
+        (last, 2**32 + 1716, 1716, (3, 0)),
+        (last, 0, 1, (3, 0)),
+        (COUNTED_OUT, 0, 1, (4, 0)),
+        (COUNTED_OUT._replace(line=626), 1, 1, (2, 0)),
+        (full, 1, 0, (1, 0)),
+    ):
+        got = calls.standing(walk, Wide(given), Wide(length_due))
+        yield f"standing {walk}, {given}, {length_due}", got, refusal
+    sizes = [calls.line_sizes(walk) for walk in (last, COUNTED_OUT, full)]
+    yield "line sizes", sizes, [(1716, 3432), (1728, 3456), (1728, 3456)]
+    for walk, told in (
+        (last, (525, 1, 0, 512, 64)),
+        (Walk(625, 22, 0, 0), (625, 0, 1, 512, 64)),
+        (Walk(0, 625, 0, 1), (625, 1, 1, 512, 64)),
+        (Walk(525, 526, 0, 0), (525, 0, 0, 512, 64)),
+    ):
+        yield f"due at {walk}", [judge.walk_due(walk, n) for n in (0, 728, 65_535)], [told] * 3
 
 
 def dues():
-    due = calls.due_of(625, 22)
+    due = judge.due_of(625, 22)
     yield "due", due, (625, 0, 1, 512, 64)
-    yield "due flags", [calls.due_flags(due, h) for h in (0, 1)], [2, 3]
+    yield "due flags", [judge.due_flags(due, h) for h in (0, 1)], [2, 3]
     plain = Due(525, 1, 0, 7, 8)
     for offset, what in (
         (0, (0, 0)), (1, (1, 0)), (2, (1, 0)), (3, (2, 5)), (4, (3, 7)), (271, (3, 8)),
@@ -49,58 +99,95 @@ def dues():
         yield f"buffers {lengths}", calls.buffer_refusal(*lengths), refusal
 
 
+def written_by_due():
+    part, words = [4 + n % 1000 for n in range(1440)], [7] * 1716
+    y, cb, cr = samples_of(part)
+    due, blank = Due(525, 1, 0, 65_535, 1_024), Due(525, 0, 1, 5, 6)
+    line = [1023, 0, 0, 872] + [65_535, 1_024] * 134 + [1023, 0, 0, 796] + part
+    yield "line written", calls.write_line(due, y, cb, cr, words), (0, 0, line)
+    yield "part written", calls.write_part(due, part, words), (0, 0, line)
+    fill = [1023, 0, 0, 728] + [5, 6] * 134 + [1023, 0, 0, 684] + [5, 6] * 720
+    nothing = [0] * 1440
+    yield "fill for samples", calls.write_line(blank, *samples_of(nothing), words), (0, 0, fill)
+    yield "fill for a part", calls.write_part(blank, nothing, words), (0, 0, fill)
+    for place, sample in ((0, 3), (1, 1020), (2, 0), (3, 1024), (1438, 65_535), (1439, 1023)):
+        outside = part[:place] + [sample] + part[place + 1 :]
+        refused = 12, place, words
+        yield f"sample {place}", calls.write_line(due, *samples_of(outside), words), refused
+        yield f"word {place}", calls.write_part(due, outside, words), refused
+    by_number = due._replace(system=5)
+    for lengths, refusal in (
+        ((525, 1715, 720, 0, 0), (3, 0)), ((525, 1716, 719, 0, 0), (3, 1)),
+        ((525, 1716, 720, 361, 0), (3, 2)), ((525, 1716, 720, 360, 0), (3, 3)),
+        ((525, 1716, 720, 360, 360), (12, 0)), ((5, 1716, 720, 360, 360), (3, 0)),
+        ((5, 1728, 720, 360, 360), (12, 0)),
+    ):  # fmt: skip
+        system, *sizes = lengths
+        lent, *samples = ([0] * size for size in sizes)
+        got = calls.write_line(due._replace(system=system), *samples, lent)
+        yield f"line of {lengths}", got, (*refusal, lent)
+    for due, size, length, refusal in (
+        (due, 1439, 1717, (3, 0)), (due, 1439, 1716, (3, 1)), (blank, 1441, 1716, (3, 1)),
+        (due, 1440, 1716, (12, 0)), (by_number, 1440, 1716, (3, 0)),
+        (by_number, 1440, 1728, (12, 0)),
+    ):  # fmt: skip
+        got = calls.write_part(due, [0] * size, [7] * length)
+        yield f"part of {size}, {length}, {due}", got, (*refusal, [7] * length)
+
+
 def lent_words():
-    part = list(range(1440))
-    y, cb, cr = [0] * 720, [0] * 360, [0] * 360
-    answer = calls.split(part, y, cb, cr)
-    firsts = [samples[:2] for samples in answer[2:]]
-    yield "split", (answer[:2], firsts), ((0, 0), [[1, 3], [0, 4], [2, 6]])
-    yield "split refused", calls.split(part[1:], y, cb, cr), (3, 0, y, cb, cr)
-    yield "split short", calls.split(part, y, cb, cr[1:])[:2], (3, 3)
+    edges = (0, 3, 4, 1019, 1020, 1023, 1024, 65_535)
+    yield "reserved", [calls.reserved(word) for word in edges], [1, 1, 0, 0, 1, 1, 1, 1]
+    yield "joined", calls.word_and_pair(1, 2, 3, 4), (513, 4 * 65_536 + 3)
+    yield "joined most", calls.word_and_pair(255, 255, 65_535, 65_535), (65_535, 2**32 - 1)
+    for words, refusal in (
+        ([], (0, 0)), ([0, 1023], (0, 0)), ([1024], (5, 0)), ([1023, 65_535, 1024], (5, 1)),
+    ):  # fmt: skip
+        yield f"over {words}", calls.first_over(words), refusal
     yield "words", calls.to_words(b"\1\2\3\4", [0, 0]), (0, 0, [513, 1027])
     yield "half a word", calls.to_words(b"\1\2\3", [7]), (3, 0, [7])
     yield "bytes", calls.to_bytes([513, 1027], bytes(4)), (0, 0, b"\1\2\3\4")
     yield "bytes short", calls.to_bytes([513], b"\7"), (3, 0, b"\7")
 
 
-def rows():
+def row_calls():
     samples = [512, 64] * 720
-    yield "unpack", calls.unpack(BLACK_ROW, [0] * 1440), (0, 0, samples)
-    yield "pack", calls.pack(samples, bytes(1920)), (0, 0, BLACK_ROW)
-    yield "row short", calls.unpack(BLACK_ROW[1:], [])[:2], (3, 0)
-    yield "samples short", calls.unpack(BLACK_ROW, [7]), (3, 1, [7])
+    yield "unpack", rows.unpack(BLACK_ROW, [0] * 1440), (0, 0, samples)
+    yield "pack", rows.pack(samples, bytes(1920)), (0, 0, BLACK_ROW)
+    yield "row short", rows.unpack(BLACK_ROW[1:], [])[:2], (3, 0)
+    yield "samples short", rows.unpack(BLACK_ROW, [7]), (3, 1, [7])
     spare = with_word(BLACK_ROW, 479, 1 << 30)
-    yield "spare bit", calls.unpack(spare, samples[::-1]), (5, 479, samples[::-1])
-    yield "over", calls.pack(samples[:-1] + [1024], BLACK_ROW), (5, 1439, BLACK_ROW)
-    yield "lengths to pack", calls.pack([], b"")[:2], (3, 0)
+    yield "spare bit", rows.unpack(spare, samples[::-1]), (5, 479, samples[::-1])
+    yield "over", rows.pack(samples[:-1] + [1024], BLACK_ROW), (5, 1439, BLACK_ROW)
+    yield "lengths to pack", rows.pack([], b"")[:2], (3, 0)
 
 
 def programme_calls():
     line = record(625, 23, BLACK_ROW)[0][4:]
     walk, after = Walk(625, 23, 0, 0), Walk(625, 24, 1, 0)
-    recorded = calls.record(walk, BLACK_ROW, bytes(3456))
+    recorded = tapes.record(walk, BLACK_ROW, bytes(3456))
     yield "recorded", recorded, (0, 0, CLEAN_REPORT, after, line)
-    extracted = calls.extract(walk, line, bytes(1920))
+    extracted = tapes.extract(walk, line, bytes(1920))
     yield "extracted", extracted, (0, 0, CLEAN_REPORT, after, BLACK_ROW)
     blank = Walk(625, 22, 0, 0)
-    fill = calls.record(blank, b"", bytes(3456))[4]
-    yield "a row for fill", calls.extract(blank, fill, b"\7" * 1920)[4], b"\7" * 1920
-    yield "line short", calls.record(walk, b"", b"")[:2], (3, 0)
-    yield "row short", calls.record(walk, b"", bytes(3456))[:2], (3, 1)
-    yield "counted out", calls.record(STANDING, b"", b"")[:2], (4, 0)
-    yield "no room", calls.extract(walk, bytes(3456), b"")[:2], (3, 1)
+    fill = tapes.record(blank, b"", bytes(3456))[4]
+    yield "a row for fill", tapes.extract(blank, fill, b"\7" * 1920)[4], b"\7" * 1920
+    yield "line short", tapes.record(walk, b"", b"")[:2], (3, 0)
+    yield "row short", tapes.record(walk, b"", bytes(3456))[:2], (3, 1)
+    yield "counted out", tapes.record(COUNTED_OUT, b"", b"")[:2], (4, 0)
+    yield "no room", tapes.extract(walk, bytes(3456), b"")[:2], (3, 1)
     for walk, answers in (
         (Walk(625, 22, 0, 0), (0, 0)), (Walk(625, 22, 1, 0), (0, 1)), (Walk(625, 1, 9, 0), (0, 0)),
         (Walk(625, 23, 1, 0), (1, 0)), (Walk(0, 20, 1, 0), (0, 1)), (Walk(525, 20, 1, 0), (1, 0)),
     ):  # fmt: skip
-        yield f"row at {walk}", (calls.takes_row(walk), calls.ends_frame(walk)), answers
+        yield f"row at {walk}", (tapes.takes_row(walk), tapes.ends_frame(walk)), answers
 
 
 def pieces():
     frames = (2, 15_999, 16_000, 2**32 - 1)
     lines = [1250, 9_999_375, 10_000_000, 10_000_000]
-    yield "piece of 625", [calls.piece_lines(625, n) for n in frames], lines
-    yield "piece of 525", [calls.piece_lines(525, n) for n in (19_047, 19_048)], [9_999_675, 10**7]
+    yield "piece of 625", [tapes.piece_lines(625, n) for n in frames], lines
+    yield "piece of 525", [tapes.piece_lines(525, n) for n in (19_047, 19_048)], [9_999_675, 10**7]
     for walk, most, ends in (
         (Walk(625, 1, 625, 0), 1249, 1),
         (Walk(625, 1, 625, 0), 1250, 0),
@@ -108,68 +195,68 @@ def pieces():
         (Walk(625, 2, 625, 0), 0, 0),
         (Walk(525, 1, 2**32 - 1, 0), 2**32 - 1, 1),
     ):
-        yield f"end at {walk}, {most}", calls.ends_piece(walk, most), ends
+        yield f"end at {walk}, {most}", tapes.ends_piece(walk, most), ends
 
 
 def runs():
     recording = record(625, 22, BLACK_ROW * 2)[0]
-    run = calls.begin(recording)
+    run = recordings.begin(recording)
     yield "begun", run, (625, 22, (625, 22, 0, 0), 0, 0)
-    yield "no header", calls.begin(b"\x71\2\1"), (0, 0, (0, 0, 0, 0), 1, 0)
+    yield "no header", recordings.begin(b"\x71\2\1"), (0, 0, (0, 0, 0, 0), 1, 0)
     after = Run(625, 22, Walk(625, 24, 2, 0), 0, 0)
-    yield "followed", calls.follow(run, recording[4:-1]), (after, 2 * 3456)
-    yield "closed", calls.close(after, b"\0"), after._replace(number=3)
-    yield "closed with none", calls.close(after, b""), after
+    yield "followed", recordings.follow(run, recording[4:-1]), (after, 2 * 3456)
+    yield "closed", recordings.close(after, b"\0"), after._replace(number=3)
+    yield "closed with none", recordings.close(after, b""), after
     spoilt = recording[4:3460] + b"\0" + recording[3461:]
     stopped = Run(625, 22, Walk(625, 23, 1, 0), 6, 0)
-    yield "a refused line is taken", calls.follow(run, spoilt), (stopped, 2 * 3456)
-    yield "ended", calls.follow(stopped, spoilt), (stopped, 0)
+    yield "a refused line is taken", recordings.follow(run, spoilt), (stopped, 2 * 3456)
+    yield "ended", recordings.follow(stopped, spoilt), (stopped, 0)
     full = Run(625, 22, Walk(625, 24, 10_000_000, 0), 0, 0)
-    yield "at once", calls.follow(full, b"\0"), (full._replace(number=4), 0)
-    yield "outcome", calls.outcome(stopped), (625, 22, 1, 0, 6, 23, 0)
-    told = [calls.outcome(after._replace(number=number)) for number in range(4)]
+    yield "at once", recordings.follow(full, b"\0"), (full._replace(number=4), 0)
+    yield "outcome", recordings.outcome(stopped), (625, 22, 1, 0, 6, 23, 0)
+    told = [recordings.outcome(after._replace(number=number)) for number in range(4)]
     yield "no line", [each.line for each in told], [0, 0, 0, 24]
-    begun = [calls.begin(pack_slice(pair)) for pair in ([625, 24], [525, 24], [625, 25])]
-    yield "follows", [calls.follows_on(after, each) for each in begun], [1, 0, 0]
-    yield "after a refusal", calls.follows_on(stopped, calls.begin(pack_slice([625, 23]))), 0
+    begun = [recordings.begin(pack_slice(pair)) for pair in ([625, 24], [525, 24], [625, 25])]
+    yield "follows", [recordings.follows_on(after, each) for each in begun], [1, 0, 0]
+    awaited = recordings.begin(pack_slice([625, 23]))
+    yield "after a refusal", recordings.follows_on(stopped, awaited), 0
 
 
 def steps():
-    recording = record(625, 22, BLACK_ROW)[0]
-    blank, line = recording[4:3460], recording[3460:6916]
-    run, kept = calls.begin(recording), b"\7" * 1920
+    run, kept = recordings.begin(TWO_LINES), b"\7" * 1920
+    blank, line = parts(TWO_LINES[4:], 3456)
     second = Run(625, 22, Walk(625, 23, 1, 0), 0, 0)
-    yield "blank line", calls.extract_next(run, blank, kept), (second, 0, kept)
+    yield "blank line", tapes.extract_next(run, blank, kept), (second, 0, kept)
     third = second._replace(walk=Walk(625, 24, 2, 0))
-    yield "line with a row", calls.extract_next(second, line, kept), (third, 1, BLACK_ROW)
+    yield "line with a row", tapes.extract_next(second, line, kept), (third, 1, BLACK_ROW)
     ended = second._replace(number=9, place=3)
-    yield "extracting has ended", calls.extract_next(ended, line, kept), (ended, 0, kept)
-    yield "judged though ended", calls.with_line(ended, line), third
+    yield "extracting has ended", tapes.extract_next(ended, line, kept), (ended, 0, kept)
+    yield "judged though ended", recordings.with_line(ended, line), third
     short = second._replace(number=3)
-    yield "end inside a line", calls.extract_next(second, line[1:], kept), (short, 0, kept)
+    yield "end inside a line", tapes.extract_next(second, line[1:], kept), (short, 0, kept)
     no_room = second._replace(number=3, place=1)
-    yield "no room for a row", calls.extract_next(second, line, b""), (no_room, 0, b"")
+    yield "no room for a row", tapes.extract_next(second, line, b""), (no_room, 0, b"")
     refused = second._replace(number=10, place=4)
-    yield "refused", calls.extract_next(second, line[:8] + b"\1" + line[9:], kept)[:2], (refused, 0)
+    yield "refused", tapes.extract_next(second, line[:8] + b"\1" + line[9:], kept)[:2], (refused, 0)
 
 
-def tapes():
-    recording = record(625, 22, BLACK_ROW)[0]
-    blank, line = recording[4:3460], recording[3460:6916]
-    tape = calls.begin_tape(625, 22, 625)
+def tape_calls():
+    blank, line = parts(TWO_LINES[4:], 3456)
+    tape = tapes.begin_tape(625, 22, 625)
     yield "begun tape", tape, ((625, 22, 0, 0), 625, 0, 0)
-    yield "no tape", calls.begin_tape(525, 526, 7), ((0, 0, 0, 0), 7, 2, 0)
+    yield "no tape", tapes.begin_tape(525, 526, 7), ((0, 0, 0, 0), 7, 2, 0)
     second = tape._replace(walk=Walk(625, 23, 1, 0))
-    yield "fill taped", calls.tape_next(tape, b"", bytes(3456)), (second, blank)
+    yield "fill taped", tapes.tape_next(tape, b"", bytes(3456)), (second, blank)
     third = tape._replace(walk=Walk(625, 24, 2, 0))
-    yield "row taped", calls.tape_next(second, BLACK_ROW, bytes(3456)), (third, line)
+    yield "row taped", tapes.tape_next(second, BLACK_ROW, bytes(3456)), (third, line)
     refused = second._replace(number=3, place=1)
-    yield "row refused", calls.tape_next(second, b"", bytes(3456)), (refused, bytes(3456))
-    yield "tape has ended", calls.tape_next(refused, BLACK_ROW, b"\7"), (refused, b"\7")
+    yield "row refused", tapes.tape_next(second, b"", bytes(3456)), (refused, bytes(3456))
+    yield "tape has ended", tapes.tape_next(refused, BLACK_ROW, b"\7"), (refused, b"\7")
     full = Tape(Walk(625, 1, 625, 3), 1249, 5, 9)
-    yield "turns", [calls.turns(full), calls.turns(full._replace(most=1250))], [1, 0]
-    yield "turned", calls.turned(full), ((625, 1, 0, 0), 1249, 5, 9)
-    yield "turned to none", calls.turned(full._replace(walk=STANDING._replace(line=0)))[0], (0,) * 4
+    yield "turns", [tapes.turns(full), tapes.turns(full._replace(most=1250))], [1, 0]
+    yield "turned", tapes.turned(full), ((625, 1, 0, 0), 1249, 5, 9)
+    no_line = full._replace(walk=COUNTED_OUT._replace(line=0))
+    yield "turned to none", tapes.turned(no_line)[0], (0,) * 4
     for walk, number, ends in (
         (Walk(625, 624, 1, 0), 0, 1),
         (Walk(625, 624, 1, 0), 3, 0),
@@ -180,7 +267,7 @@ def tapes():
         (Walk(625, 624, 10_000_000, 0), 0, 0),
         (Walk(0, 624, 1, 0), 0, 0),
     ):
-        yield f"end of {walk}, {number}", calls.tape_ends(Tape(walk, 0, number, 0)), ends
+        yield f"end of {walk}, {number}", tapes.tape_ends(Tape(walk, 0, number, 0)), ends
 
 
 def arrivals():
@@ -204,20 +291,20 @@ def arrivals():
 def sums():
     one = Totals(*map(Wide, (1, 2, 3, 4, 5, 6)))
     told = Outcome(525, 1, 10, 20, 9, 3, 3)
-    yield "read", calls.with_read(one, told), (2, 12, 3, 24, 6, 6)
+    yield "read", totals.with_read(one, told), (2, 12, 3, 24, 6, 6)
     accepted = told._replace(system=625, number=0)
-    yield "read, accepted", calls.with_read(one, accepted), (2, 2, 13, 24, 5, 6)
-    yield "unread", calls.with_unread(one), (2, 2, 3, 4, 5, 7)
+    yield "read, accepted", totals.with_read(one, accepted), (2, 2, 13, 24, 5, 6)
+    yield "unread", totals.with_unread(one), (2, 2, 3, 4, 5, 7)
     most = Totals(*[Wide(2**64 - 1)] * 6)
-    yield "over 64 bits", calls.with_read(most, told), (0, 9, 2**64 - 1, 19, 0, 2**64 - 1)
-    yield "lines over 64 bits", calls.total_lines(most), 2**64 - 2
+    yield "over 64 bits", totals.with_read(most, told), (0, 9, 2**64 - 1, 19, 0, 2**64 - 1)
+    yield "lines over 64 bits", totals.total_lines(most), 2**64 - 2
     yield "wide", flat(most._replace(files=Wide(2**32 + 5)))[:4], [5, 1, 2**32 - 1, 2**32 - 1]
     for lines525, lines625, parts in (
         (0, 0, 0), (0, 2812, 0), (0, 2813, 1), (0, 5625, 1), (2832, 0, 0), (2833, 0, 1),
         (56_643_356, 0, 10_000), (0, 56_250_000, 10_000),
     ):  # fmt: skip
-        totals = one._replace(lines525=Wide(lines525), lines625=Wide(lines625))
-        yield f"time of {lines525}, {lines625}", calls.hours(totals), parts
+        counted = one._replace(lines525=Wide(lines525), lines625=Wide(lines625))
+        yield f"time of {lines525}, {lines625}", totals.hours(counted), parts
 
 
 def calls_in(crate):
@@ -244,21 +331,33 @@ def every_call():
     library = [crate for crate in crates() if crate not in kinds.NOT_ASKED]
     public = {call for crate in library for call in calls_in(crate)}
     asked = {call for kind in kinds.KINDS for call in kinds.ASKED[kind]}
-    yield "calls that no kind asks", sorted(public - asked - set(kinds.NOT_ASKED)), []
-    yield "calls that are not there", sorted(asked - public), []
+    excused = {name for name in kinds.NOT_ASKED if "::" in name}
+    yield "calls that no kind asks", sorted(public - asked - excused), []
+    yield "calls that are not there", sorted((asked | excused) - public), []
+    yield "crates that are not there", sorted(set(kinds.NOT_ASKED) - excused - set(crates())), []
+
+
+def every_kind():
+    """Every kind has cases, and its answers begin with the numbers that it names."""
+    numbers = {kind: len(kinds.KINDS[kind].heads) for kind in kinds.KINDS}
+    found = {case.kind: len(kinds.answer_parts(case)[0]) for case in chosen_cases()}
+    yield "numbers of answers", found, numbers
 
 
 GROUPS = (
     shared_calls,
+    moved_walks,
     dues,
+    written_by_due,
     lent_words,
-    rows,
+    row_calls,
     programme_calls,
     pieces,
     runs,
     steps,
-    tapes,
+    tape_calls,
     arrivals,
     sums,
     every_call,
+    every_kind,
 )

@@ -2,30 +2,16 @@
 
 from itertools import product
 
-from independent import call_cases, judge, step_cases
-from independent.material import (
-    CODE_BITS,
-    EDGE_COUNTS,
-    EDGE_LINES,
-    EDGE_WORDS,
-    HIGHEST,
-    SYSTEMS,
-    WRONG_SYSTEMS,
-    Source,
-    changed,
-    chosen_lines,
-    edge_offsets,
-    fourth_offsets,
-    inverted,
-    line_after,
-    line_for,
-    line_numbers,
-    plain_and_blank_line,
-    samples_of,
-    stretched,
-    turning_lines,
-    word_lengths,
-)
+from independent import call_cases, due_cases, judge, step_cases
+from independent.edges import ALL_PLACES, ANY_SYSTEMS, EDGE_COUNTS, EDGE_LINES, EDGE_PLACES
+from independent.edges import EDGE_SAMPLES, EDGE_WORDS, HIGHEST, LISTED_COUNTS, LISTED_LENGTHS
+from independent.edges import LISTED_LINES, LISTED_SAMPLES, LISTED_SERIAL, SYSTEMS, WRONG_SYSTEMS
+from independent.judge import Walk, fourth_offsets, line_after, samples_of
+from independent.material import Source, changed, chosen_lines, edge_offsets, inverted, line_for
+from independent.material import line_numbers, of_both, plain_and_blank_line, slice_lengths
+from independent.material import stretched, turning_lines
+from independent.offered import at_any_walk, every_edge_word, every_inversion, every_offset_spoilt
+from independent.offered import of_any_length
 from independent.protocol import (
     ACTIVE,
     CAPTURE_CORRECT,
@@ -39,15 +25,6 @@ from independent.protocol import (
     Case,
     pack_slice,
 )
-
-LISTED_SAMPLES = (3, 4, 1019, 1020)
-LISTED_LINES = (0, 1, 525, 526, 625, 626)
-LISTED_LENGTHS = (1715, 1716, 1728, 1729)
-LISTED_COUNTS = (9_999_999, 10_000_000)
-LISTED_SERIAL = (65_536, 65_537)
-
-ALL_PLACES = range(judge.ACTIVE_WORDS)
-EDGE_PLACES = (*ALL_PLACES[:8], *ALL_PLACES[718:722], *ALL_PLACES[-4:])
 
 GOOD_STATES = ((0, 0), (0, 1), (1, 0), (256, 1), (511, 0), (511, 1))
 BAD_STATES = (
@@ -93,7 +70,7 @@ def wide_words(source):
 
 
 def fresh_walks(source):
-    for system, line in product((*SYSTEMS, *WRONG_SYSTEMS), EDGE_LINES):
+    for system, line in product(ANY_SYSTEMS, EDGE_LINES):
         yield FRESH, (system, line)
     for system, line in product(SYSTEMS, range(0, 640)):
         yield FRESH, (system, line)
@@ -130,24 +107,22 @@ def listed_counts(source):
     for (system, line), lines_read in product(chosen_lines(), LISTED_COUNTS):
         for repairs in (0, 2 * lines_read, 2 * lines_read + 1):
             words = source.written(system, line)
-            yield from readings(source, (system, line, lines_read, repairs), words)
+            yield from readings(source, Walk(system, line, lines_read, repairs), words)
 
 
 def listed_serial(source):
     for kind, length in product((CODE, DECODE), LISTED_SERIAL):
-        state = source.random.randrange(512), source.random.randrange(2)
+        state = source.serial_state()
         words = source.serial_words(length)
         yield kind, (*state, words, [65_535] * length)
 
 
 def drawn_errors(source):
     """The errors a builder is drawn to, in their order; then a picture out of its place."""
-    for system, line in chosen_lines():
-        words = source.written(system, line)
-        eav, sav = fourth_offsets(system)
-        walk = source.walk(system, line)
+    for walk, words in source.offered(chosen_lines()):
+        eav, sav = fourth_offsets(walk.system)
         both = {eav: words[eav] ^ 4, sav: words[sav] ^ 256}
-        start, last = judge.active_start(system), len(words) - 1
+        start, last = judge.active_start(walk.system), len(words) - 1
         for changes in (
             {eav: 632},
             {sav: 632},
@@ -162,41 +137,31 @@ def drawn_errors(source):
             both,
             {**both, last: 3},
             dict(enumerate(source.picture(), start)),
-            {offset: judge.FILL[offset] for offset in range(start, last + 1)},
+            {offset: judge.FILL[offset % 2] for offset in range(start, last + 1)},
         ):
             yield from readings(source, walk, changed(words, changes))
 
 
 def every_line(source):
-    for system in SYSTEMS:
-        for line in line_numbers(system):
-            samples = samples_of(source.picture())
-            before = source.junk(judge.SYSTEMS[system].words)
-            yield WRITE, (system, line, *samples, before)
-            words = judge.write(system, line, *samples, before)[2]
-            yield from readings(source, source.walk(system, line), words)
+    for system, line in of_both(line_numbers):
+        samples = samples_of(source.picture())
+        before = source.junk(judge.SYSTEMS[system].words)
+        yield WRITE, (system, line, *samples, before)
+        words = judge.write(system, line, *samples, before)[2]
+        yield from readings(source, source.walk(system, line), words)
 
 
 def every_offset(source):
-    for system in SYSTEMS:
-        for line in plain_and_blank_line(system):
-            words = source.written(system, line)
-            walk = source.walk(system, line)
-            for offset, word in enumerate(words):
-                faults = source.over(word), source.wrong(system, line, offset, word)
-                over, wrong = (changed(words, {offset: fault}) for fault in faults)
-                yield bytewise(walk, pack_slice(over))
-                yield bytewise(walk, pack_slice(wrong))
-                yield READ, (walk, wrong if offset % 2 else over, *source.junk_buffers())
-                yield ACTIVE, (walk, over if offset % 2 else wrong)
+    for walk, offset, over, wrong in every_offset_spoilt(source):
+        yield bytewise(walk, pack_slice(over))
+        yield bytewise(walk, pack_slice(wrong))
+        yield READ, (walk, wrong if offset % 2 else over, *source.junk_buffers())
+        yield ACTIVE, (walk, over if offset % 2 else wrong)
 
 
 def edge_words(source):
-    for system, line in chosen_lines():
-        words = source.written(system, line)
-        walk = source.walk(system, line)
-        for offset, word in product(edge_offsets(system), EDGE_WORDS):
-            yield from readings(source, walk, changed(words, {offset: word}))
+    for walk, words in every_edge_word(source):
+        yield from readings(source, walk, words)
 
 
 def several_faults(source):
@@ -228,35 +193,23 @@ def faults_in(source, system, line, words):
 
 def every_pattern(source):
     """Bits 9 to 2 of each fourth word in all their patterns."""
-    for system, line in chosen_lines():
-        words = source.written(system, line)
-        walk = source.walk(system, line)
-        for offset, pattern in product(fourth_offsets(system), range(256)):
+    for walk, words in source.offered(chosen_lines()):
+        for offset, pattern in product(fourth_offsets(walk.system), range(256)):
             word = pattern << 2 | source.random.randrange(4)
             yield bytewise(walk, pack_slice(changed(words, {offset: word})))
 
 
 def inverted_bits(source):
     """No or one bit inverted in both codes; two and more in one of them."""
-    one_or_none = (0, *inverted(1))
-    for system, line in chosen_lines():
-        words = source.written(system, line)
-        walk = source.walk(system, line)
-        eav, sav = fourth_offsets(system)
-        for first, second in product(one_or_none, one_or_none):
-            changes = {eav: words[eav] ^ first, sav: words[sav] ^ second}
-            yield from readings(source, walk, changed(words, changes))
-        more = [mask for count in (2, 3, 4, 7) for mask in inverted(count)]
-        for offset, mask in product((eav, sav), more):
-            changes = {offset: words[offset] ^ mask}
-            yield from readings(source, walk, changed(words, changes))
+    for walk, words in every_inversion(source, (2, 3, 4, 7)):
+        yield from readings(source, walk, words)
 
 
 def low_bits(source):
     for system, line in chosen_lines():
         words = source.written(system, line)
         eav, sav = fourth_offsets(system)
-        for bit in (0, *(1 << n for n in CODE_BITS)):
+        for bit in (0, *inverted(1)):
             for changes in ({}, {eav: words[eav] ^ bit}, {sav: words[sav] ^ bit}):
                 low = source.low_bits(system, changed(words, changes))
                 yield from readings(source, source.walk(system, line), low)
@@ -280,33 +233,22 @@ def foreign_lines(source):
 
 def shifted_lines(source):
     """A line turned by some words, and one whose bytes are swapped."""
-    for system, line in chosen_lines():
-        words = source.written(system, line)
-        walk = source.walk(system, line)
-        for turn in (1, 2, 4, judge.SYSTEMS[system].sav, -1):
+    for walk, words in source.offered(chosen_lines()):
+        for turn in (1, 2, 4, judge.SYSTEMS[walk.system].sav, -1):
             yield from readings(source, walk, words[turn:] + words[:turn])
         swapped = [word >> 8 | (word & 255) << 8 for word in words]
         yield from readings(source, walk, swapped)
 
 
-def slice_lengths(system):
-    """Lengths of words, Y, CB and CR, right and wrong, in all ways."""
-    y, c = judge.Y_SAMPLES, judge.C_SAMPLES
-    y_lengths = (y, 0, y - 1, y + 1)
-    c_lengths = (c, 0, c - 1, c + 1)
-    return product(word_lengths(system), y_lengths, c_lengths, c_lengths)
-
-
 def wrong_slices(source):
     """Clean lines in slices of all lengths, to be read and to be written."""
-    for system in SYSTEMS:
-        for line in plain_and_blank_line(system):
-            clean = source.written(system, line)
-            for length, *sizes in slice_lengths(system):
-                buffers = [source.junk(size) for size in sizes]
-                words = stretched(clean, length)
-                yield READ, (source.walk(system, line), words, *buffers)
-                yield WRITE, (system, line, *buffers, source.junk(length))
+    for system, line in of_both(plain_and_blank_line):
+        clean = source.written(system, line)
+        for length, *sizes in slice_lengths(system):
+            buffers = [source.junk(size) for size in sizes]
+            words = stretched(clean, length)
+            yield READ, (source.walk(system, line), words, *buffers)
+            yield WRITE, (system, line, *buffers, source.junk(length))
 
 
 def wrong_lines(source):
@@ -314,30 +256,25 @@ def wrong_lines(source):
     for system, line in chosen_lines():
         clean = source.written(system, line)
         parts = judge.CODE_WORDS, judge.active_start(system), judge.ACTIVE_WORDS
-        for length in (*word_lengths(system), 1, *parts, 2_000):
-            for words in (clean, changed(clean, {0: 1024, 3: 0})):
-                walk = source.walk(system, line)
-                yield from readings(source, walk, stretched(words, length))
+        for walk, words in of_any_length(source, system, line, clean, (1, *parts, 2_000)):
+            yield from readings(source, walk, words)
 
 
 def wrong_bytes(source):
     """Byte counts about those of both systems."""
     for system, line in chosen_lines():
         data = pack_slice(source.written(system, line)) + pack_slice(source.junk(400))
-        for figures in judge.SYSTEMS.values():
+        for length_of in SYSTEMS:
             for extra in (-2, -1, 0, 1, 2):
-                size = 2 * figures.words + extra
+                size = judge.line_size(length_of) + extra
                 yield bytewise(source.walk(system, line), data[:size])
         for size in (0, 1, 2, 3, 4, judge.SYSTEMS[system].words, 3_999, 4_000):
             yield bytewise(source.walk(system, line), data[:size])
 
 
 def bad_walks(source):
-    systems = (*SYSTEMS, *WRONG_SYSTEMS)
-    lines = (*LISTED_LINES, 65_537, HIGHEST)
-    for system, line, counts in product(systems, lines, EDGE_COUNTS):
-        words = line_for(source, system, line)
-        yield from readings(source, (system, line, *counts), words)
+    for walk, words in at_any_walk(source, (*LISTED_LINES, 65_537, HIGHEST)):
+        yield from readings(source, walk, words)
 
 
 def mixed_refusals(source):
@@ -353,7 +290,7 @@ def mixed_refusals(source):
         words = stretched(words, len(words) + choice((0, 0, 0, 1, -1)))
         y, cb, cr = source.junk_buffers()
         buffers = y[choice((0, 0, 1)) :], cb[choice((0, 0, 1)) :], cr[choice((0, 0, 1)) :]
-        walk = (system, line, *counts)
+        walk = Walk(system, line, *counts)
         yield READ, (walk, words, *buffers)
         yield ACTIVE, (walk, words)
         yield bytewise(walk, pack_slice(words))
@@ -362,11 +299,16 @@ def mixed_refusals(source):
 
 def written_samples(source):
     """One sample, at or beyond a limit, at an edge of the active part."""
-    values = (0, 3, 4, 1019, 1020, 1023, 1024, 65_535)
+    values = (*EDGE_SAMPLES, 1024, 65_535)
     for (system, line), place, value in product(chosen_lines(), EDGE_PLACES, values):
         part = changed(source.picture(), {place: value})
-        before = source.junk(judge.SYSTEMS[system].words)
-        yield WRITE, (system, line, *samples_of(part), before)
+        yield written_into_junk(source, system, line, part)
+
+
+def written_into_junk(source, system, line, part):
+    """Samples to be written where any words stand."""
+    before = source.junk(judge.SYSTEMS[system].words)
+    return WRITE, (system, line, *samples_of(part), before)
 
 
 def written_faults(source):
@@ -377,8 +319,7 @@ def written_faults(source):
         line = choice(line_numbers(system))
         places = choice(EDGE_PLACES), *source.random.choices(ALL_PLACES, k=3)
         part = changed(source.picture(), {place: choice(EDGE_WORDS) for place in places})
-        before = source.junk(judge.SYSTEMS[system].words)
-        yield WRITE, (system, line, *samples_of(part), before)
+        yield written_into_junk(source, system, line, part)
 
 
 def written_junk(source):
@@ -390,7 +331,7 @@ def written_junk(source):
 
 
 def written_numbers(source):
-    for system, line in product((*SYSTEMS, *WRONG_SYSTEMS), EDGE_LINES):
+    for system, line in product(ANY_SYSTEMS, EDGE_LINES):
         length = len(line_for(source, system, line))
         for part in (source.picture(), source.junk(judge.ACTIVE_WORDS)):
             yield WRITE, (system, line, *samples_of(part), source.junk(length))
@@ -414,7 +355,7 @@ def serial_single_words(source):
 def serial_runs(source):
     """A run, and its coded words decoded from the same state."""
     for _ in range(150):
-        state = source.random.randrange(512), source.random.randrange(2)
+        state = source.serial_state()
         length = source.random.randrange(2, 300)
         plain = source.serial_words(length)
         yield DECODE, (*state, plain, source.junk(length))
@@ -504,6 +445,7 @@ FAMILIES = (
     serial_lengths,
     serial_round_trip,
     *call_cases.FAMILIES,
+    *due_cases.FAMILIES,
     *step_cases.FAMILIES,
 )
 

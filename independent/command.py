@@ -7,14 +7,25 @@ the system's text of an error is due, the word REASON stands.
 
 import os
 import re
-from fractions import Fraction
 from functools import lru_cache
-from math import floor
+from itertools import chain
 from typing import NamedTuple, Optional
 
 from independent import judge, programme
-from independent.material import line_after
 from independent.programme import LAST_NUMBER, Refused
+from independent.recordings import (
+    Run,
+    awaited_line,
+    five_lines,
+    follows_on,
+    header_of,
+    line_count,
+    outcome,
+    run_over,
+    told,
+)
+from independent.tapes import frame_rows, piece_lines
+from independent.totals import HOUR_PARTS, hours, no_totals, total_lines, with_read, with_unread
 
 FOLDER = "folder"
 
@@ -44,14 +55,14 @@ AWAITED = {
 }
 
 HEADER_TEXTS = {
-    judge.NO_SYSTEM: "the system is neither 525 nor 625",
+    judge.NO_SYSTEM: f"the system is neither {' nor '.join(map(str, judge.SYSTEMS))}",
     judge.NO_LINE: "the start line is not one of the system",
 }
 READ_TEXTS = {
     **HEADER_TEXTS,
     judge.WRONG_LENGTH: "the recording ends inside a line",
-    judge.WRONG_COUNTS: "it goes on after 10000000 lines",
-    judge.OVER_A_WORD: "a word is over 1023",
+    judge.WRONG_COUNTS: f"it goes on after {judge.LINES_LIMIT} lines",
+    judge.OVER_A_WORD: f"a word is over {judge.LAST_WORD}",
     judge.NO_PREAMBLE: "one of the first three words of a timing code is wrong",
     judge.NO_BIT_9: "bit 9 of a fourth word is 0",
     judge.NO_PATTERN: "a timing code has no legal code within one inverted bit",
@@ -62,15 +73,17 @@ READ_TEXTS = {
 RECORD_TEXTS = {
     **HEADER_TEXTS,
     judge.WRONG_LENGTH: "the last row is short",
-    judge.WRONG_COUNTS: "10000000 lines are written, and --into FOLDER would go on in a next file",
+    judge.WRONG_COUNTS: (
+        f"{judge.LINES_LIMIT} lines are written, and --into FOLDER would go on in a next file"
+    ),
     judge.OVER_A_WORD: "spare bits are set in a word of the row",
-    judge.NOT_A_SAMPLE: "a sample is outside 4 to 1019",
+    judge.NOT_A_SAMPLE: f"a sample is outside {judge.FIRST_SAMPLE} to {judge.LAST_SAMPLE}",
 }
 SERIAL_TEXTS = {
-    judge.OVER_A_WORD: "it is over 1023",
+    judge.OVER_A_WORD: f"it is over {judge.LAST_WORD}",
     judge.WRONG_LENGTH: "half a word is left",
 }
-FRAME_ROWS_TEXT = "a frame of 525 has 487 rows, one of 625 has 576"
+FRAME_ROWS_TEXT = f"a frame of 525 has {frame_rows(525)} rows, one of 625 has {frame_rows(625)}"
 
 RECORDINGS = {f"{number:04}.rec": number for number in range(1, LAST_NUMBER + 1)}
 
@@ -80,10 +93,6 @@ MISSING = "is missing"
 NO_NUMBERS = "holds no numbered recordings (0001.rec and so on)"
 HELD = "holds recordings already: name another folder"
 NO_MORE_NUMBERS = f"holds {LAST_NUMBER} recordings, and no more can be numbered"
-
-# 25 pictures a second of 625 lines, 30000/1001 of 525.
-LINE_SECONDS = {625: Fraction(1, 25 * 625), 525: Fraction(1001, 30_000 * 525)}
-
 
 class Answer(NamedTuple):
     """What is written on standard output and standard error, the status, the files left."""
@@ -176,31 +185,6 @@ def waiting(verb):
     return f"{verb}: waits for {AWAITED[verb]} on standard input\n".encode()
 
 
-class Run(NamedTuple):
-    """The numbers of a recording's five lines."""
-
-    system: int
-    start: int
-    lines: int
-    repairs: int
-    number: int
-    line: int
-    place: int
-
-    @property
-    def refusal(self):
-        return self[4:]
-
-    @property
-    def awaited(self):
-        """The line after the last one, and the system."""
-        return line_after(self.system, self.start, self.lines), self.system
-
-
-def run_of(five_lines):
-    return Run(*map(int, re.findall(rb"\d+", five_lines)))
-
-
 class Piece(NamedTuple):
     """A file to be read: its name, its bytes and its run, or why there are none."""
 
@@ -221,7 +205,7 @@ def unread(name, want):
 @lru_cache(maxsize=64)
 def run_in(data):
     """A file's run; one that is named often is read once."""
-    return run_of(judge.confirm(data))
+    return run_over(data)
 
 
 NOTHING = unread("", None)
@@ -274,12 +258,12 @@ def gap_between(before, piece):
     """How a piece does not follow on an accepted one; None where it does or is not judged."""
     if not before.accepted or piece.run is None or piece.run.number in HEADER_TEXTS:
         return None
-    line, system = before.run.awaited
-    if (piece.run.start, piece.run.system) == (line, system):
+    if follows_on(before.run, piece.run):
         return None
     return (
         f"{shown(piece.name)} does not follow on {shown(before.name)}: it starts with line "
-        f"{piece.run.start} of {piece.run.system}, and line {line} of {system} is awaited"
+        f"{piece.run.start} of {piece.run.system}, and line {before.run.walk.line} of "
+        f"{before.run.system} is awaited"
     )
 
 
@@ -287,31 +271,27 @@ def row_of(piece):
     """The line of one file among several."""
     if piece.run is None:
         return f"UNREAD {shown(piece.name)}\n"
-    result = " ".join(map(str, piece.run.refusal))
-    return (
-        f"SYSTEM {piece.run.system} START {piece.run.start} LINES {piece.run.lines} "
-        f"REPAIRS {piece.run.repairs} RESULT {result} {shown(piece.name)}\n"
-    )
+    return f"{' '.join(told(outcome(piece.run)))} {shown(piece.name)}\n"
 
 
-def hour_parts(seconds):
-    """Ten-thousandths of an hour, to the nearest."""
-    return floor(seconds * Fraction(10_000, 3_600) + Fraction(1, 2))
-
-
-def hours(runs):
+def shown_hours(totals):
     """The programme's time."""
-    parts = hour_parts(sum(run.lines * LINE_SECONDS.get(run.system, 0) for run in runs))
-    return f"{parts // 10_000}.{parts % 10_000:04}"
+    whole, parts = divmod(hours(totals), HOUR_PARTS)
+    return f"{whole}.{parts:04}"
 
 
-def totals(pieces):
-    runs = [piece.run for piece in pieces if piece.run]
-    lines, repairs = sum(run.lines for run in runs), sum(run.repairs for run in runs)
-    stopped = sum(run.number != 0 for run in runs)
+def totals_of(pieces):
+    totals = no_totals()
+    for piece in pieces:
+        is_read = piece.run is not None
+        totals = with_read(totals, outcome(piece.run)) if is_read else with_unread(totals)
+    return totals
+
+
+def shown_totals(totals):
     return (
-        f"FILES {len(pieces)} LINES {lines} HOURS {hours(runs)} REPAIRS {repairs} "
-        f"REFUSED {stopped} UNREAD {len(pieces) - len(runs)}\n"
+        f"FILES {totals.files} LINES {total_lines(totals)} HOURS {shown_hours(totals)} "
+        f"REPAIRS {totals.repairs} REFUSED {totals.refused} UNREAD {totals.unread}\n"
     )
 
 
@@ -342,18 +322,19 @@ class Confirming(Report):
     def write_picture(self, data):
         """Nothing: a confirmed recording's rows are not asked for."""
 
-    def say_refused(self, run, of):
-        if run.number:
-            self.say(STOPPED, of + refused(run.refusal, READ_TEXTS))
+    def say_refused(self, told, of):
+        if told.number:
+            refusal = told.number, told.line, told.place
+            self.say(STOPPED, of + refused(refusal, READ_TEXTS))
 
-    def tell(self, five_lines, of=""):
-        self.write_text(five_lines.decode())
-        self.say_refused(run_of(five_lines), of)
+    def tell(self, told, of=""):
+        self.write_text(five_lines(told).decode())
+        self.say_refused(told, of)
 
     def read(self, data, of=""):
         """Standard input, or one file."""
         self.write_picture(data)
-        self.tell(judge.confirm(data), of)
+        self.tell(outcome(run_over(data)), of)
 
     def say_unread(self, piece):
         self.say(FAILED, f"{shown(piece.name)} {piece.want}")
@@ -370,28 +351,28 @@ class Confirming(Report):
         if piece.run:
             self.write_picture(piece.data)
             self.write_text(row_of(piece))
-            self.say_refused(piece.run, f"{shown(piece.name)}: ")
+            self.say_refused(outcome(piece.run), f"{shown(piece.name)}: ")
         else:
             self.say_unread(piece)
             self.write_text(row_of(piece))
 
     def read_row(self, pieces):
         """Read the pieces of one argument; those that got a row."""
-        told = []
+        got_a_row = []
         for before, piece in zip([NOTHING, *pieces], pieces):
             gap = gap_between(before, piece)
             if gap:
                 self.say(STOPPED, gap)
             if self.goes_on or not gap:
                 self.read_piece(piece)
-                told.append(piece)
+                got_a_row.append(piece)
             if not self.goes_on and (gap or not piece.accepted):
                 break
-        return told
+        return got_a_row
 
     def read_names(self, names):
-        told = [piece for name in names for piece in self.read_row(row_at(self.files, name))]
-        self.write_text(totals(told))
+        rows = [self.read_row(row_at(self.files, name)) for name in names]
+        self.write_text(shown_totals(totals_of(chain.from_iterable(rows))))
 
 
 class Extracting(Confirming):
@@ -410,10 +391,10 @@ READERS = {"confirm": Confirming, "extract": Extracting}
 SERIAL_CALLS = {"scramble": programme.scramble, "descramble": programme.descramble}
 
 
-def told_answer(verb, five_lines):
-    """The answer to a recording of these five lines on standard input, but for its pictures."""
+def told_answer(verb, told):
+    """The answer to a recording of this outcome on standard input, but for its pictures."""
     reader = READERS[verb](verb, {})
-    reader.tell(five_lines)
+    reader.tell(told)
     return reader.answer()
 
 
@@ -434,8 +415,8 @@ def say_how_it_ends(report, pieces, stopped, folder=""):
         report.say(STOPPED, refused(stopped.args, RECORD_TEXTS))
     elif stopped:
         report.say(FAILED, f"{shown(folder)} {NO_MORE_NUMBERS}")
-    elif programme.line_count(pieces[0]) and programme.awaited_line(pieces[-1]) != 1:
-        line, system = programme.awaited_line(pieces[-1]), judge.header_of(pieces[-1])[0]
+    elif line_count(pieces[0]) and awaited_line(pieces[-1]) != 1:
+        line, system = awaited_line(pieces[-1]), header_of(pieces[-1])[0]
         awaited = f"line {line} of {system} is awaited ({FRAME_ROWS_TEXT})"
         report.say(TAKEN, f"the last frame is not whole: {awaited}")
 
@@ -471,7 +452,7 @@ def record_into(report, folder, frames, system, start, data):
     if why_not:
         report.say(FAILED, why_not)
         return
-    most = programme.most_lines(system, frames)
+    most = piece_lines(system, frames)
     pieces, stopped = programme.record_pieces(system, start, data, most)
     report.files = with_pieces(report.files, folder, pieces)
     say_how_it_ends(report, pieces, stopped, folder)

@@ -7,20 +7,16 @@ from typing import NamedTuple
 
 from independent import command, judge, programme
 from independent.command import FAILED, Answer
-from independent.material import (
-    SYSTEMS,
-    changed,
-    edge_offsets,
-    fourth_offsets,
-    inverted,
-    line_after,
-    line_numbers,
-    plain_and_blank_line,
-    turning_lines,
-)
-from independent.programme import ROW_BYTES, ROW_WORDS, lines_of, row_of
+from independent.edges import EDGE_SAMPLES, SYSTEMS
+from independent.judge import fourth_offsets, line_after
+from independent.material import changed, edge_offsets, inverted, line_numbers
+from independent.material import plain_and_blank_line, turning_lines
 from independent.protocol import pack_slice
-from independent.runs import STARTS, header, recording, replaced
+from independent.recordings import HEADER_BYTES, five_lines, header, header_of, lines_of
+from independent.recordings import outcome, recording
+from independent.rows import ROW_BYTES, ROW_WORDS, row_of, samples_of_row, with_word, words_of_row
+from independent.runs import STARTS, damaged, replaced
+from independent.tapes import NEVER_FULL, begin_tape, frame_rows
 
 SERIAL_PROGRAMS = ("scramble", "descramble")
 VERBS = ("confirm", "record", "extract", *SERIAL_PROGRAMS, "help")
@@ -65,11 +61,6 @@ def extracted(data):
 
 def rows(source, count):
     return b"".join(row_of(source.picture()) for _ in range(count))
-
-
-def frame_rows(system):
-    """How many rows a frame has."""
-    return sum(not judge.due_v(system, line) for line in line_numbers(system))
 
 
 def any_line(source, system):
@@ -124,14 +115,13 @@ def record_short_rows(source):
 def with_spare(row, *faults):
     """A row with spare bits set in some of its words."""
     for index, bits in faults:
-        word = programme.words_of_row(row)[index] | bits
-        row = programme.with_word(row, index, word)
+        row = with_word(row, index, words_of_row(row)[index] | bits)
     return row
 
 
 def with_samples(row, samples):
     """A row with other samples at some places."""
-    return row_of(changed(programme.samples_of_row(row), samples))
+    return row_of(changed(samples_of_row(row), samples))
 
 
 def among_rows(source, system, row):
@@ -155,9 +145,8 @@ def record_spare_bits(source):
 
 
 def record_samples(source):
-    edges = (0, 3, 4, 1019, 1020, 1023)
     for system in SYSTEMS:
-        for sample, place in product(edges, places(source, judge.ACTIVE_WORDS)):
+        for sample, place in product(EDGE_SAMPLES, places(source, judge.ACTIVE_WORDS)):
             row = with_samples(rows(source, 1), {place: sample})
             yield among_rows(source, system, row)
         two = with_samples(rows(source, 1), {1439: 0, 720: 1023})
@@ -190,12 +179,12 @@ def extract_recordings(source):
         frame = programme.record(system, any_line(source, system), data)[0]
         for clean in (*short, frame):
             yield extracted(clean)
-            yield extracted(programme.damaged(source, clean))
+            yield extracted(damaged(source, clean))
 
 
 def some_line(source, data):
     """A line of a recording: how many are before it, its number and its words."""
-    system, start = judge.header_of(data)
+    system, start = header_of(data)
     steps, words = source.random.choice(list(enumerate(lines_of(data))))
     return steps, line_after(system, start, steps), words
 
@@ -203,7 +192,7 @@ def some_line(source, data):
 def spoilt(data, steps, offset, word):
     """A recording with one word of one line changed."""
     lines = replaced(lines_of(data), steps, {offset: word})
-    return recording(*judge.header_of(data), lines)
+    return recording(*header_of(data), lines)
 
 
 def extract_two_bits(source):
@@ -213,7 +202,7 @@ def extract_two_bits(source):
         offset = fourth_offsets(system)[code]
         steps, _, words = some_line(source, clean)
         fault = words[offset] ^ source.random.choice(inverted(2))
-        for data in (clean, programme.damaged(source, clean)):
+        for data in (clean, damaged(source, clean)):
             yield extracted(spoilt(data, steps, offset, fault))
 
 
@@ -233,8 +222,8 @@ def extract_faults(source):
 def extract_cuts(source):
     for system in SYSTEMS:
         data = some_recording(source, system)
-        size = 2 * judge.SYSTEMS[system].words
-        edges = [4 + n * size + more for n in (1, 2) for more in (-1, 0, 1, 2)]
+        size = judge.line_size(system)
+        edges = [HEADER_BYTES + n * size + more for n in (1, 2) for more in (-1, 0, 1, 2)]
         for end in (*edges, *source.random.sample(range(5, len(data)), 6)):
             yield extracted(data[:end])
         yield extracted(data + b"\0")
@@ -281,7 +270,7 @@ def confirm_input(source):
     """Recordings as they are, damaged in one bit of every code, and spoilt in one word."""
     for system in SYSTEMS:
         clean = some_recording(source, system)
-        for data in (clean, programme.damaged(source, clean), clean[:-1], clean[:4]):
+        for data in (clean, damaged(source, clean), clean[:-1], clean[:HEADER_BYTES]):
             yield case_of(("confirm",), data)
         for offset in source.random.sample(edge_offsets(system), 4):
             steps, line, words = some_line(source, clean)
@@ -377,9 +366,10 @@ def round_trips(source):
     for system in SYSTEMS:
         for count in (3, frame_rows(system) + 1):
             start, data = any_line(source, system), rows(source, count)
-            five_lines = programme.extract(programme.record(system, start, data)[0])[1]
+            run = programme.extract(programme.record(system, start, data)[0])[1]
             script = f"{COMMAND} record {system} {start} {FROM_FILE} 2>/dev/null"
-            yield Case(f"{script} | {COMMAND} extract", data, Answer(data, five_lines, 0))
+            due = Answer(data, five_lines(outcome(run)), 0)
+            yield Case(f"{script} | {COMMAND} extract", data, due)
     for count in (1, 5_000, judge.SERIAL_LIMIT + 1):
         data = pack_slice(source.serial_words(count))
         script = f"{COMMAND} scramble {FROM_FILE} | {COMMAND} descramble"
@@ -450,7 +440,7 @@ def before_the_end(words, data):
         return b""
     if words[0] != "record":
         return command.answer(words, data).output
-    recorder = programme.Recorder(*map(int, words[1:]))
+    recorder = programme.Recorder(begin_tape(*map(int, words[1:]), NEVER_FULL))
     recorder.put_rows(data)
     return bytes(recorder.pieces[0])
 

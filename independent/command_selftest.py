@@ -10,18 +10,20 @@ from independent.command import (
     USES,
     Answer,
     Report,
-    Run,
     answer,
-    hours,
     refused,
     say_how_it_ends,
     shown,
+    shown_hours,
     waiting,
     with_pieces,
 )
-from independent.programme import BLACK_ROW, record
+from independent.programme import record
 from independent.protocol import pack_slice
-from independent.runs import header, recording, replaced
+from independent.recordings import Outcome, header, lines_of, recording
+from independent.rows import BLACK_ROW
+from independent.runs import replaced
+from independent.totals import no_totals, with_read
 
 # Two lines of 625, the second with a picture's row, and what confirms them.
 TWO_LINES = record(625, 22, BLACK_ROW)[0]
@@ -31,7 +33,7 @@ ROW = "SYSTEM 625 START 22 LINES 2 REPAIRS 0 RESULT 0 0 0"
 
 def two_lines_with(steps, offset, word):
     """The two lines with one word changed."""
-    lines = replaced(programme.lines_of(TWO_LINES), steps, {offset: word})
+    lines = replaced(lines_of(TWO_LINES), steps, {offset: word})
     return recording(625, 22, lines)
 
 
@@ -164,8 +166,10 @@ def summed_hours():
         (2_740, 72, "0.0000"), (10_000_000, 0, "0.1778"), (56_250_000, 0, "1.0000"),
         (0, 56_643_357, "1.0000"), (562_500_000, 56_643_357, "11.0000"),
     ):  # fmt: skip
-        runs = [Run(625, 1, of_625, 0, 0, 0, 0), Run(525, 1, of_525, 0, 0, 0, 0)]
-        yield f"{of_625} and {of_525} lines", hours([*runs, Run(0, 1, 9, 0, 1, 0, 0)]), due
+        totals = no_totals()
+        for system, lines in ((625, of_625), (525, of_525), (0, 9)):
+            totals = with_read(totals, Outcome(system, 1, lines, 0, 0, 0, 0))
+        yield f"{of_625} and {of_525} lines", shown_hours(totals), due
 
 
 def folder_of(*pieces):

@@ -22,7 +22,7 @@ from concurrent.futures import ThreadPoolExecutor
 from pathlib import Path
 from threading import Timer
 
-from independent import judge, kinds, protocol, stream
+from independent import kinds, protocol, recordings, stream
 from independent.cases import cases
 from independent.command import Answer, told_answer
 from independent.material import Choice
@@ -66,10 +66,12 @@ class Tally:
         path.write_bytes(data)
         return path
 
-    def summary(self):
+    def status(self):
+        """Print the counts, and give the status to end with."""
         for family in sorted({*self.passed, *self.failed}):
             print(f"{family}: {self.passed[family]} passed, {self.failed[family]} failed")
         print(f"{self.passed.total()} passed, {self.failed.total()} failed")
+        return 0 if self.passed and not self.failed else 1
 
 
 def ending_of(outcome):
@@ -98,9 +100,12 @@ def run_with_pieces(command, pieces, one_by_one, timeout=TIMEOUT_SECONDS):
         hand_over(process, pieces, one_by_one)
         process.wait()
         timer.cancel()
-        output.seek(0)
-        errors.seek(0)
-        return Answer(output.read(), errors.read(), process.returncode)
+        return Answer(written_in(output), written_in(errors), process.returncode)
+
+
+def written_in(file):
+    file.seek(0)
+    return file.read()
 
 
 def hand_over(process, pieces, one_by_one):
@@ -198,9 +203,7 @@ def run_confirm(command, run):
             file.write(run.data)
             file.seek(0)
             return run_with(command, stdin=file)
-    size = run.delivery
-    pieces = [run.data[n : n + size] for n in range(0, len(run.data), size)]
-    return run_with_pieces(command, pieces, one_by_one=True)
+    return run_with_pieces(command, recordings.parts(run.data, run.delivery), one_by_one=True)
 
 
 def compare_confirm(tally, command, jobs, all_runs):
@@ -212,7 +215,7 @@ def compare_confirm(tally, command, jobs, all_runs):
 
 
 def compare_run(tally, run, outcome):
-    expected = told_answer("confirm", judge.confirm(run.data))
+    expected = told_answer("confirm", recordings.outcome(recordings.run_over(run.data)))
 
     def explain():
         given = f"  {len(run.data)} bytes, handed over by {run.delivery}\n"
@@ -232,7 +235,7 @@ def compare_limit(tally, command, jobs):
 
 
 def compare_long_run(tally, run, outcome):
-    expected = told_answer("confirm", stream.expected_output(run))
+    expected = told_answer("confirm", stream.expected_outcome(run))
 
     def explain():
         given = "  the input file holds the arguments of stream.py\n"
@@ -244,16 +247,22 @@ def compare_long_run(tally, run, outcome):
     tally.compare("limit", name, arguments.encode(), expected, outcome, explain)
 
 
-def options_of(arguments):
-    parser = argparse.ArgumentParser(description="compare another program with the judge")
-    parser.add_argument("--probe", type=shlex.split, help="command that answers cases")
-    parser.add_argument("--confirm", type=shlex.split, help="the confirming program")
+def comparing_parser(description):
+    """The options of every comparison."""
+    parser = argparse.ArgumentParser(description=description)
     parser.add_argument("--keep", help="directory for inputs that show a difference")
-    parser.add_argument("--kinds", help="numbers of protocol.py, and 'confirm': 3,9,confirm")
-    parser.add_argument("--quick", action="store_true", help="a small part of all cases")
     parser.add_argument("--limit", action="store_true", help="only the runs of 10,000,000 lines")
     parser.add_argument("--seed", type=int, default=SEED, help="seed of the random numbers")
     parser.add_argument("-j", "--jobs", type=int, default=2, help="commands at a time")
+    return parser
+
+
+def options_of(arguments):
+    parser = comparing_parser("compare another program with the judge")
+    parser.add_argument("--probe", type=shlex.split, help="command that answers cases")
+    parser.add_argument("--confirm", type=shlex.split, help="the confirming program")
+    parser.add_argument("--kinds", help="numbers of protocol.py, and 'confirm': 3,9,confirm")
+    parser.add_argument("--quick", action="store_true", help="a small part of all cases")
     options = parser.parse_args(arguments)
     names = [*map(str, kinds.KINDS), CONFIRM]
     options.kinds = options.kinds.split(",") if options.kinds else names
@@ -281,8 +290,7 @@ def main():
     options = options_of(sys.argv[1:])
     tally = Tally(options.seed, options.keep)
     compare_all(tally, options)
-    tally.summary()
-    return 0 if tally.passed and not tally.failed else 1
+    return tally.status()
 
 
 if __name__ == "__main__":

@@ -7,7 +7,6 @@ with a command that reproduces it, and its input and files are kept. The last
 line tells how many runs passed and how many failed.
 """
 
-import argparse
 import errno
 import os
 import re
@@ -43,10 +42,11 @@ from independent.command_cases import (
     TO_TERMINAL,
     called,
 )
-from independent.compare import LIMIT_TIMEOUT_SECONDS, SEED, Tally, hand_over, in_order
+from independent.compare import LIMIT_TIMEOUT_SECONDS, Tally, comparing_parser, hand_over
+from independent.compare import in_order, written_in
 from independent.material import Source
-from independent.runs import header
-from independent.stream import LIMIT, LongRun, write_all
+from independent.recordings import header
+from independent.stream import LongRun, write_all
 
 REPOSITORY = Path(__file__).resolve().parent.parent
 TIMEOUT_SECONDS = 120
@@ -166,9 +166,7 @@ def run(case, words, path):
             lay_out(room, case.files)
             status = hand(case, words, stdout=output, stderr=errors, cwd=room)
             files = things_in(room)
-        output.seek(0)
-        errors.seek(0)
-        return Answer(output.read(), errors.read(), status, files)
+        return Answer(written_in(output), written_in(errors), status, files)
 
 
 def compared_output(case, output):
@@ -264,14 +262,14 @@ def compare_all(tally, words, jobs):
 
 def limit_runs():
     """A byte after 10,000,000 lines: arguments, pieces in and out, what is said."""
-    clean = LongRun(625, 1, LIMIT, 0, repaired=False)
+    clean = LongRun(625, 1, judge.LINES_LIMIT, 0, repaired=False)
     frames = clean.lines // judge.SYSTEMS[clean.system].lines
     picture = programme.extract(header(625, 1) + stream.frame(clean))[0]
     said = f"record: {refused((judge.WRONG_COUNTS, 1, 0), RECORD_TEXTS)}\n".encode()
     given = chain(repeat(picture, frames), [b"\0"])
     yield ("record", "625", "1"), given, stream.pieces(clean), said
-    longer = LongRun(625, 1, LIMIT, 1, repaired=True)
-    said = told_answer("extract", stream.expected_output(longer)).errors
+    longer = LongRun(625, 1, judge.LINES_LIMIT, 1, repaired=True)
+    said = told_answer("extract", stream.expected_outcome(longer)).errors
     yield ("extract",), stream.pieces(longer), repeat(picture, frames), said
 
 
@@ -289,8 +287,7 @@ def run_limit(script, words, given, due):
             Thread(target=hand_over, args=(process, given, False)).start()
             as_due = follows(process.stdout, due)
             status = process.wait()
-        errors.seek(0)
-        return as_due, errors.read(), status
+        return as_due, written_in(errors), status
 
 
 def compare_limit(tally, words):
@@ -312,12 +309,8 @@ def command_words(text):
 
 
 def options_of(arguments):
-    parser = argparse.ArgumentParser(description="compare the command with its model")
+    parser = comparing_parser("compare the command with its model")
     parser.add_argument("--command", default="target/command/fiskrogn", help="its words")
-    parser.add_argument("--keep", help="directory for inputs that show a difference")
-    parser.add_argument("--limit", action="store_true", help="only the runs of 10,000,000 lines")
-    parser.add_argument("--seed", type=int, default=SEED, help="seed of the random numbers")
-    parser.add_argument("-j", "--jobs", type=int, default=2, help="commands at a time")
     return parser.parse_args(arguments)
 
 
@@ -328,8 +321,7 @@ def main():
         compare_limit(tally, words)
     else:
         compare_all(tally, words, options.jobs)
-    tally.summary()
-    return 0 if tally.passed and not tally.failed else 1
+    return tally.status()
 
 
 if __name__ == "__main__":

@@ -2,7 +2,7 @@
 
 from itertools import product
 
-from independent import command, judge, programme
+from independent import command, judge
 from independent.command import FOLDER, Answer, with_pieces
 from independent.command_cases import (
     COMMAND,
@@ -13,7 +13,6 @@ from independent.command_cases import (
     called,
     case_of,
     failed,
-    frame_rows,
     from_file,
     on_terminal,
     rows,
@@ -25,8 +24,11 @@ from independent.command_cases import (
     with_samples,
     with_spare,
 )
-from independent.material import SYSTEMS, line_after
-from independent.runs import STARTS, clean_lines, header, recording
+from independent.edges import SYSTEMS
+from independent.judge import line_after
+from independent.recordings import HEADER_BYTES, header, recording
+from independent.runs import STARTS, clean_lines, damaged
+from independent.tapes import frame_rows
 
 READING_VERBS = ("confirm", "extract")
 
@@ -85,9 +87,9 @@ def read_files(source):
     """One file as it is, damaged, refused, cut, with a spoilt header; it is not standard input."""
     for system, verb in product(SYSTEMS, READING_VERBS):
         clean = some_recording(source, system)
-        damaged = programme.damaged(source, clean)
-        headers = (b"", clean[:3], clean[:4], header(system, 0), header(system + 1, 1))
-        for data in (clean, damaged, refused(clean), refused(damaged, 2), clean[:-1], *headers):
+        repaired = damaged(source, clean)
+        headers = (b"", clean[:3], clean[:HEADER_BYTES], header(system, 0), header(system + 1, 1))
+        for data in (clean, repaired, refused(clean), refused(repaired, 2), clean[:-1], *headers):
             yield case_of((verb, "a.rec"), header(0, 0), {"a.rec": data})
 
 
@@ -106,9 +108,9 @@ def some_things(source):
     """Files and folders of every sort."""
     whole = [consecutive(source, system, STARTS[system], (2, 1, 3)) for system in SYSTEMS]
     files = {f"{system}.rec": some_recording(source, system) for system in SYSTEMS}
-    files["damaged"] = programme.damaged(source, files["525.rec"])
+    files["damaged"] = damaged(source, files["525.rec"])
     files["refused"] = refused(files["625.rec"])
-    files["no system"] = header(624, 1) + files["625.rec"][4:]
+    files["no system"] = header(624, 1) + files["625.rec"][HEADER_BYTES:]
     files["no line"] = header(525, 526)
     files["empty"] = b""
     files["nothing"] = FOLDER
@@ -181,9 +183,9 @@ def rows_of_pieces(source):
         last = judge.SYSTEMS[system].lines
         wrong = (b"", header(system, line)[:3], header(system, 0), header(system, last + 1))
         for spoilt_header in (*wrong, header(0, line), header(system + 1, line)):
-            yield (first, spoilt_header + second[4:], third)
+            yield (first, spoilt_header + second[HEADER_BYTES:], third)
         yield (header(0, 0), first, second)
-        yield (first, programme.damaged(source, second), third)
+        yield (first, damaged(source, second), third)
         yield (first, FOLDER, third)
         yield (FOLDER, first)
 
@@ -218,23 +220,17 @@ def into(folder, system, start, frames=None):
     return ("record", "--into", folder, *parts, str(system), str(start))
 
 
-def rows_to_the_end(system, start):
-    """How many rows there are from a line to the end of its frame."""
-    lines = range(start, judge.SYSTEMS[system].lines + 1)
-    return sum(not judge.due_v(system, line) for line in lines)
-
-
 def recorded_pieces(source):
     """Pieces of 1, 2 and 3 frames: all full, or a row more or less."""
     for system, frames in product(SYSTEMS, (1, 2, 3)):
         whole = (frames - 1) * frame_rows(system)
         for start, more in ((1, 0), (1, 1), (any_line(source, system), 1)):
-            count = rows_to_the_end(system, start) + whole + more
+            count = frame_rows(system, start) + whole + more
             yield case_of(into("d", system, start, frames), rows(source, count))
     for system in SYSTEMS:
         last = judge.SYSTEMS[system].lines
         for start, more in ((last - 2, -1), (last - 2, 0), (last, 1), (last - 1, 1)):
-            count = rows_to_the_end(system, start) + frame_rows(system) + more
+            count = frame_rows(system, start) + frame_rows(system) + more
             yield case_of(into("d", system, start, 1), rows(source, count))
         yield case_of(into("d", system, 1, 999_999_999), rows(source, 2))
         for start in (1, any_line(source, system)):

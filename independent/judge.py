@@ -1,4 +1,4 @@
-"""The rules of digital lines, of the walk, of the serial form and of a confirming run.
+"""The rules of digital lines, of the walk, of the serial form and of the capture process.
 
 Each rule stands beside the sentence of document 01 ("Precise rules and scope
 of the build") that it obeys, given between quotation marks. Words and samples
@@ -7,6 +7,7 @@ refusal is a pair of number and place; None stands where nothing is refused.
 """
 
 import struct
+from functools import lru_cache
 from typing import NamedTuple
 
 
@@ -40,6 +41,11 @@ SYSTEMS = {
 }
 
 
+def system_of(number):
+    """The system that a number names; one that names none stands for 625."""
+    return number if number in SYSTEMS else 625
+
+
 # "A walk holds system, awaited line number, lines read, repairs."
 class Walk(NamedTuple):
     system: int
@@ -48,22 +54,25 @@ class Walk(NamedTuple):
     repairs: int
 
 
-# The refusal numbers, 1 to 13, in the order of their table.
-(
-    NO_SYSTEM,
-    NO_LINE,
-    WRONG_LENGTH,
-    WRONG_COUNTS,
-    OVER_A_WORD,
-    NO_PREAMBLE,
-    NO_BIT_9,
-    NO_PATTERN,
-    NOT_DUE,
-    NO_FILL,
-    RESERVED,
-    NOT_A_SAMPLE,
-    WRONG_STATE,
-) = range(1, 14)
+# "a walk all zero"
+NO_WALK = Walk(*[0] * len(Walk._fields))
+
+
+# The refusal numbers, each with its row of the document's table.
+NO_SYSTEM = 1  # "system is neither 525 nor 625"
+NO_LINE = 2  # "line number outside 1 to 525, or 1 to 625"
+WRONG_LENGTH = 3  # "a slice has the wrong length"
+WRONG_COUNTS = 4  # "lines read is 10,000,000 or more, or repairs exceed twice lines read"
+OVER_A_WORD = 5  # "a word over 1023"
+NO_PREAMBLE = 6  # "one of the first three words of a timing code is wrong"
+NO_BIT_9 = 7  # "bit 9 of a fourth word is 0"
+NO_PATTERN = 8  # "seven bits with no legal pattern within one bit"
+NOT_DUE = 9  # "the corrected F, V, H are not those due here"
+NO_FILL = 10  # "fill is due and is not there"
+RESERVED = 11  # "a reserved word where a sample is due"
+NOT_A_SAMPLE = 12  # "sample to be written is outside 4 to 1019"
+WRONG_STATE = 13  # "serial state: scrambled bits over 511 or last bit over 1"
+LAST_REFUSAL = WRONG_STATE
 
 # "Every answer has a number and a place."; "0 | accepted | 0".
 ACCEPTED = (0, 0)
@@ -84,8 +93,11 @@ ACTIVE_WORDS = 1440
 Y_SAMPLES = 720
 C_SAMPLES = 360
 
+# "Y, CB and CR exactly 720, 360, 360"
+SAMPLE_LENGTHS = (Y_SAMPLES, C_SAMPLES, C_SAMPLES)
+
 # "Fill, by offset in the line: 512 at even, 64 at odd offsets."
-FILL = [512, 64] * (max(figures.words for figures in SYSTEMS.values()) // 2)
+FILL = (512, 64)
 
 # "A timing code is four words: 1023, 0, 0, then the fourth word"
 PREAMBLE = (1023, 0, 0)
@@ -96,6 +108,12 @@ LINES_LIMIT = 10_000_000
 
 # "Coder and decoder take at most 65,536 words"
 SERIAL_LIMIT = 65_536
+
+# "fresh is 0 and 0"
+FRESH_STATE = (0, 0)
+
+# "scrambled bits over 511"
+LAST_SCRAMBLED = 511
 
 
 def fourth_word(f, v, h):
@@ -112,7 +130,10 @@ def fourth_word(f, v, h):
 
 FOURTH_WORDS = [fourth_word(fvh >> 2, fvh >> 1 & 1, fvh & 1) for fvh in range(8)]
 BIT_9 = 1 << 9
-SEVEN_BITS = 0b0111111100
+
+# "F, V, H, P3, P2, P1, P0 in bits 8 to 2"
+CODE_BITS = range(2, 9)
+SEVEN_BITS = sum(1 << bit for bit in CODE_BITS)
 
 CLEAN, REPAIRED, REFUSED = range(3)
 
@@ -134,32 +155,62 @@ def correct(word):
             return (CLEAN, fvh, 0, 0)
         if distance == 1:
             return (REPAIRED, fvh, difference.bit_length() - 1, 0)
-    # "seven bits with no legal pattern within one bit"
     return (REFUSED, 0, 0, NO_PATTERN)
 
 
-def repaired_bit(word):
-    """The report of one accepted code: 0 for clean, or the repaired bit's number."""
-    return correct(word)[2]
+# "A line's report carries both codes' reports in one record."
+class Report(NamedTuple):
+    eav: int
+    eav_bit: int
+    sav: int
+    sav_bit: int
+
+
+CLEAN_REPORT = Report(CLEAN, 0, CLEAN, 0)
+
+
+def code_report(tag, fvh, bit, number):
+    """The report of one code from its correction."""
+    # "its report says clean for both codes": a code that is refused is told as clean.
+    return (REPAIRED, bit) if tag == REPAIRED else (CLEAN, 0)
+
+
+def line_report(system, words):
+    """The report of an accepted line."""
+    eav, sav = (code_report(*correct(words[offset])) for offset in fourth_offsets(system))
+    return Report(*eav, *sav)
+
+
+def repairs(report):
+    # "Counting repaired lines; the count is of repaired codes."
+    return (report.eav, report.sav).count(REPAIRED)
 
 
 def within(line, spans):
     return int(any(first <= line <= last for first, last in spans))
 
 
+# "F and V belong to the line number and hold for its EAV and its SAV"
+
+
 def due_f(system, line):
-    # "F and V belong to the line number and hold for its EAV and its SAV"
     return within(line, SYSTEMS[system].f_lines)
 
 
 def due_v(system, line):
-    # "F and V belong to the line number and hold for its EAV and its SAV"
     return within(line, SYSTEMS[system].v_lines)
 
 
-def due_fvh(system, line, h):
-    # "H is 1 in EAV, 0 in SAV."
-    return due_f(system, line) << 2 | due_v(system, line) << 1 | h
+def line_after(system, line, steps=1):
+    """The line so many steps on, or back."""
+    # "After the last line comes line 1."
+    return (line - 1 + steps) % SYSTEMS[system].lines + 1
+
+
+def next_line(system, line):
+    """The line after any line number."""
+    # "After the last line comes line 1.": so it does after a number behind the last.
+    return line + 1 if line < SYSTEMS[system].lines else 1
 
 
 def active_start(system):
@@ -167,11 +218,85 @@ def active_start(system):
     return SYSTEMS[system].sav + CODE_WORDS
 
 
+def active_part(system, words):
+    return words[active_start(system) :]
+
+
+def code_starts(system):
+    """Offsets of EAV and SAV."""
+    return 0, SYSTEMS[system].sav
+
+
+def fourth_offsets(system):
+    return [start + len(PREAMBLE) for start in code_starts(system)]
+
+
+# What is due in a line: its system, its F and V, and fill at even and odd offsets.
+class Due(NamedTuple):
+    system: int
+    f: int
+    v: int
+    even: int
+    odd: int
+
+
+def due_of(system, line):
+    """What is due in a line that is written."""
+    return Due(system, due_f(system, line), due_v(system, line), *FILL)
+
+
+def walk_due(walk, fourth):
+    """What is due in a line that is read at a walk, by the fourth word of its EAV."""
+    # "F and V belong to the line number": as yet no word decides.
+    return due_of(system_of(walk.system), walk.line)
+
+
+def due_in(walk, words):
+    """What is due in a line that is read at a walk."""
+    eav, _ = fourth_offsets(walk.system)
+    return walk_due(walk, words[eav])
+
+
+def due_flags(due, h):
+    # "H is 1 in EAV, 0 in SAV."
+    return due.f << 2 | due.v << 1 | h
+
+
+# What may be due at an offset; with a fourth word go its F, V, H, with fill its word.
+ONES, ZEROS, FOURTH_WORD, FILL_WORD, SAMPLE = range(5)
+
+
+def due_in_code(fvh, index):
+    # "A timing code is four words: 1023, 0, 0, then the fourth word"
+    return ((ONES, 0), (ZEROS, 0), (ZEROS, 0), (FOURTH_WORD, fvh))[index]
+
+
+def fill_at(due, offset):
+    # "Fill, by offset in the line"
+    return due.odd if offset % 2 else due.even
+
+
+def due_at(due, offset):
+    """What is due at an offset; behind SAV all is active part, however far."""
+    sav, active = SYSTEMS[due.system].sav, active_start(due.system)
+    if offset < CODE_WORDS:
+        return due_in_code(due_flags(due, 1), offset)
+    if sav <= offset < active:
+        return due_in_code(due_flags(due, 0), offset - sav)
+    # "On lines with V = 1 the active part is fill"
+    is_fill = offset < sav or due.v
+    return (FILL_WORD, fill_at(due, offset)) if is_fill else (SAMPLE, 0)
+
+
+@lru_cache(maxsize=None)
+def dues(due):
+    """What is due at each offset of a line."""
+    return [due_at(due, offset) for offset in range(SYSTEMS[due.system].words)]
+
+
 def line_number_refusal(system, line):
-    # "system is neither 525 nor 625"
     if system not in SYSTEMS:
         return (NO_SYSTEM, 0)
-    # "line number outside 1 to 525, or 1 to 625"
     if not 1 <= line <= SYSTEMS[system].lines:
         return (NO_LINE, 0)
     return None
@@ -183,95 +308,83 @@ def walk_refusal(walk):
 
 
 def counts_refusal(walk):
-    # "lines read is 10,000,000 or more, or repairs exceed twice lines read"
     if walk.lines_read >= LINES_LIMIT or walk.repairs > 2 * walk.lines_read:
         return (WRONG_COUNTS, 0)
     return None
 
 
-def length_refusal(given, due):
-    # "a slice has the wrong length | 0 words, 1 Y, 2 CB, 3 CR"; "Within 3 the
-    # lowest place is answered."
-    for place, length in enumerate(due):
-        if len(given[place]) != length:
+def length_refusal(lengths, due, first_place=0):
+    # "0 words, 1 Y, 2 CB, 3 CR"; "Within 3 the lowest place is answered."
+    for place, (length, length_due) in enumerate(zip(lengths, due), first_place):
+        if length != length_due:
             return (WRONG_LENGTH, place)
     return None
 
 
-def slices_refusal(system, words, y, cb, cr):
-    # "Words slices have exactly the line's length; Y, CB and CR exactly 720,
-    # 360, 360."
-    due = (SYSTEMS[system].words, Y_SAMPLES, C_SAMPLES, C_SAMPLES)
-    return length_refusal((words, y, cb, cr), due)
+def words_refusal(system, words):
+    # "Words slices have exactly the line's length"
+    return length_refusal((len(words),), (SYSTEMS[system].words,))
+
+
+def buffers_refusal(*lengths):
+    # "Y, CB and CR exactly 720, 360, 360"
+    return length_refusal(lengths, SAMPLE_LENGTHS, first_place=1)
+
+
+def slices_refusal(system, words, *buffers):
+    return words_refusal(system, words) or buffers_refusal(*map(len, buffers))
+
+
+def line_size(system):
+    """The bytes of a line."""
+    # "two per word"
+    return 2 * SYSTEMS[system].words
 
 
 def bytes_refusal(system, data):
     # "a byte count that is not twice the line's words is 3, place 0, in 3's turn"
-    return length_refusal((data,), (2 * SYSTEMS[system].words,))
+    return length_refusal((len(data),), (line_size(system),))
 
 
-def refusal_at(words, offset, number):
-    # "at one offset 5 comes before 6 to 11"
-    return (OVER_A_WORD if words[offset] > LAST_WORD else number, offset)
-
-
-def code_refusal(words, start, fvh):
-    """The first refusal in the timing code at an offset."""
-    for offset, due in enumerate(PREAMBLE, start):
-        # "The reader takes no notice of bits 1 and 0 of timing words: 1020 to
-        # 1023 count as the first, 0 to 3 as the second and third"
-        if words[offset] >> 2 != due >> 2:
-            # "one of the first three words of a timing code is wrong"
-            return refusal_at(words, offset, NO_PREAMBLE)
-    fourth = start + len(PREAMBLE)
-    tag, corrected, _, number = correct(words[fourth])
-    # "7, 8, 9 in that order"
-    if tag == REFUSED:
-        return (number, fourth)
-    # "the corrected F, V, H are not those due here"
-    if corrected != fvh:
-        return (NOT_DUE, fourth)
-    return None
-
-
-def fill_refusal(words, start, end):
-    # "fill is due and is not there"
-    if words[start:end] == FILL[start:end]:
-        return None
-    offset = next(i for i in range(start, end) if words[i] != FILL[i])
-    return refusal_at(words, offset, NO_FILL)
-
-
-def place_outside(samples):
-    """The lowest place that holds no sample, or None."""
+def is_sample(word):
     # "A sample is 4 to 1019"
-    if FIRST_SAMPLE <= min(samples) and max(samples) <= LAST_SAMPLE:
-        return None
-    return next(
-        place
-        for place, sample in enumerate(samples)
-        if not FIRST_SAMPLE <= sample <= LAST_SAMPLE
-    )
+    return FIRST_SAMPLE <= word <= LAST_SAMPLE
 
 
-def samples_refusal(words, start, end):
-    # "a reserved word where a sample is due"
-    place = place_outside(words[start:end])
-    return None if place is None else refusal_at(words, start + place, RESERVED)
+def over_refusal(words):
+    """The first word over 1023, its place being its index."""
+    return next(((OVER_A_WORD, i) for i, word in enumerate(words) if word > LAST_WORD), None)
 
 
-def line_refusal(walk, words):
-    """The refusal at the lowest offset with any fault, the parts taken in their order."""
-    system, line = walk.system, walk.line
-    figures = SYSTEMS[system]
-    # "On lines with V = 1 the active part is fill"
-    active_refusal = fill_refusal if due_v(system, line) else samples_refusal
-    return (
-        code_refusal(words, 0, due_fvh(system, line, 1))
-        or fill_refusal(words, CODE_WORDS, figures.sav)
-        or code_refusal(words, figures.sav, due_fvh(system, line, 0))
-        or active_refusal(words, active_start(system), figures.words)
-    )
+def fourth_word_number(fvh, word):
+    """The number of what is wrong with the fourth word of a code, or 0."""
+    _, corrected, _, number = correct(word)
+    # "7, 8, 9 in that order"
+    return number or (NOT_DUE if corrected != fvh else 0)
+
+
+@lru_cache(maxsize=None)
+def number_where(due, word):
+    """The number of what is wrong with a word where this is due, or 0."""
+    what, value = due
+    # "at one offset 5 comes before 6 to 11"
+    if word > LAST_WORD:
+        return OVER_A_WORD
+    if what == FOURTH_WORD:
+        return fourth_word_number(value, word)
+    if what == FILL_WORD:
+        return 0 if word == value else NO_FILL
+    if what == SAMPLE:
+        return 0 if is_sample(word) else RESERVED
+    # "The reader takes no notice of bits 1 and 0 of timing words: 1020 to 1023
+    # count as the first, 0 to 3 as the second and third"
+    return 0 if word >> 2 == (LAST_WORD >> 2 if what == ONES else 0) else NO_PREAMBLE
+
+
+def line_refusal(due, words):
+    """The refusal at the lowest offset with any fault."""
+    numbers = map(number_where, dues(due), words)
+    return next(((number, offset) for offset, number in enumerate(numbers) if number), None)
 
 
 def fresh(system, line):
@@ -279,111 +392,150 @@ def fresh(system, line):
     # "A fresh walk: 1, 2; its refusal returns a walk all zero."
     refusal = line_number_refusal(system, line)
     if refusal:
-        return (*refusal, Walk(0, 0, 0, 0))
+        return (*refusal, NO_WALK)
     # "A fresh walk has zero counts."
-    return (*ACCEPTED, Walk(system, line, 0, 0))
+    return (*ACCEPTED, NO_WALK._replace(system=system, line=line))
 
 
-def line_report(system, words):
-    """The reports of EAV and SAV of an accepted line."""
-    eav, sav = 0, SYSTEMS[system].sav
-    return tuple(repaired_bit(words[code + len(PREAMBLE)]) for code in (eav, sav))
+def counted(count, more):
+    """A count of 32 bits with more added: no walk that is taken passes them."""
+    return (count + more) % 2**32
 
 
-def repaired_codes(system, words):
-    # "Counting repaired lines; the count is of repaired codes."
-    return sum(bit != 0 for bit in line_report(system, words))
-
-
-def advanced(walk, repairs):
-    """The walk after an accepted line with so many repaired codes."""
+def moved(walk, due, report):
+    """The walk after an accepted line in which this was due, whatever the walk refuses."""
     # "An accepted line advances the line number, adds 1 to lines read and 0 to
     # 2 to repairs."
-    # "After the last line comes line 1."
-    line = walk.line % SYSTEMS[walk.system].lines + 1
-    return Walk(walk.system, line, walk.lines_read + 1, walk.repairs + repairs)
-
-
-def read(walk, words, y, cb, cr):
-    """Number, place, reports of EAV and SAV, walk and sample buffers afterwards."""
-    walk = Walk(*walk)
-    refusal = (
-        walk_refusal(walk)
-        or slices_refusal(walk.system, words, y, cb, cr)
-        or line_refusal(walk, words)
+    return walk._replace(
+        line=next_line(due.system, walk.line),
+        lines_read=counted(walk.lines_read, 1),
+        repairs=counted(walk.repairs, repairs(report)),
     )
+
+
+class Judgement(NamedTuple):
+    """The answer to a line that is judged."""
+
+    number: int
+    place: int
+    report: Report
+    walk: Walk
+
+
+def refused(walk, number, place):
     # "A refused line leaves the walk standing and may be offered again; its
-    # report says clean for both codes."; "No refusal writes a buffer."
-    if refusal:
-        return (*refusal, 0, 0, walk, y, cb, cr)
-    # On lines with V = 1 "the sample buffers are measured there but neither
-    # looked at nor written".
-    if not due_v(walk.system, walk.line):
-        part = words[active_start(walk.system) :]
-        y, cb, cr = part[Y_PLACES], part[CB_PLACES], part[CR_PLACES]
-    eav, sav = line_report(walk.system, words)
-    after = advanced(walk, repaired_codes(walk.system, words))
-    return (*ACCEPTED, eav, sav, after, y, cb, cr)
+    # report says clean for both codes."
+    return Judgement(number, place, CLEAN_REPORT, walk)
 
 
-def active(walk, words):
-    """The active part, or the empty part."""
-    walk = Walk(*walk)
-    # "an empty part exactly when reading that line at that walk would be
-    # refused; sample buffers play no role in this call"
+def accepted(walk, due, report):
+    return Judgement(*ACCEPTED, report, moved(walk, due, report))
+
+
+def judged(walk, words):
+    """The judgement of a line's words; sample buffers play no role."""
+    # "Reader: 1, 2, 4, 3, then the lowest offset with any fault"
     refusal = (
         walk_refusal(walk)
-        or length_refusal((words,), (SYSTEMS[walk.system].words,))
-        or line_refusal(walk, words)
+        or words_refusal(walk.system, words)
+        or line_refusal(due_in(walk, words), words)
     )
-    return [] if refusal else words[active_start(walk.system) :]
+    if refusal:
+        return refused(walk, *refusal)
+    return accepted(walk, due_in(walk, words), line_report(walk.system, words))
 
 
-def timing_code(system, line, h):
-    # "The writer sets low bits as shown"
-    return [*PREAMBLE, FOURTH_WORDS[due_fvh(system, line, h)]]
+def samples_of(part):
+    """Y, CB and CR of an active part."""
+    return [part[Y_PLACES], part[CB_PLACES], part[CR_PLACES]]
 
 
 def interleaved(y, cb, cr):
+    """The active part of Y, CB and CR."""
     # "Active part: CB, Y, CR, Y repeated"
     part = [0] * ACTIVE_WORDS
     part[CB_PLACES], part[Y_PLACES], part[CR_PLACES] = cb, y, cr
     return part
 
 
-def written_refusal(system, line, y, cb, cr):
+def taken(walk, words, buffers):
+    """The sample buffers after a line that is judged well."""
+    # On lines with V = 1 "the sample buffers are measured there but neither
+    # looked at nor written".
+    if due_in(walk, words).v:
+        return buffers
+    return samples_of(active_part(walk.system, words))
+
+
+def read(walk, words, *buffers):
+    """Number, place, report, walk and sample buffers afterwards."""
+    refusal = walk_refusal(walk) or slices_refusal(walk.system, words, *buffers)
+    judgement = refused(walk, *refusal) if refusal else judged(walk, words)
+    # "No refusal writes a buffer."
+    return (*judgement, *(buffers if judgement.number else taken(walk, words, buffers)))
+
+
+def active(walk, words):
+    """The active part, or the empty part."""
+    # "an empty part exactly when reading that line at that walk would be
+    # refused; sample buffers play no role in this call"
+    return [] if judged(walk, words).number else active_part(walk.system, words)
+
+
+def timing_code(due, h):
+    # "The writer sets low bits as shown"
+    return [*PREAMBLE, FOURTH_WORDS[due_flags(due, h)]]
+
+
+def written_refusal(due, part):
     # "then 12 at the lowest place, on V = 0 lines only"
-    if due_v(system, line):
+    return None if due.v else sample_refusal(part)
+
+
+def sample_refusal(part):
+    # "its place in the active part, 0 to 1439"
+    if is_sample(min(part)) and is_sample(max(part)):
         return None
-    # "sample to be written is outside 4 to 1019 | its place in the active part"
-    place = place_outside(interleaved(y, cb, cr))
-    return None if place is None else (NOT_A_SAMPLE, place)
+    return next((NOT_A_SAMPLE, i) for i, sample in enumerate(part) if not is_sample(sample))
+
+
+def fill_between(due, start, end):
+    return [fill_at(due, offset) for offset in range(start, end)]
+
+
+def line_of(due, part=()):
+    """The words of a line that is written; with V = 1 its active part is not looked at."""
+    figures, active = SYSTEMS[due.system], active_start(due.system)
+    between = fill_between(due, CODE_WORDS, figures.sav)
+    # "On lines with V = 1 the active part is fill"
+    behind = fill_between(due, active, figures.words) if due.v else list(part)
+    return timing_code(due, 1) + between + timing_code(due, 0) + behind
+
+
+def written(due, part, words):
+    """Number, place and the words afterwards, where all lengths are right."""
+    refusal = written_refusal(due, part)
+    # "No refusal writes a buffer."
+    return (*refusal, words) if refusal else (*ACCEPTED, line_of(due, part))
+
+
+def write_line(due, y, cb, cr, words):
+    """Number, place and the words afterwards of the line in which this is due."""
+    # "Writer: 1, 2, 3, then 12": by whatever number, so that 1 and 2 have no place.
+    refusal = slices_refusal(due.system, words, y, cb, cr)
+    return (*refusal, words) if refusal else written(due, interleaved(y, cb, cr), words)
 
 
 def write(system, line, y, cb, cr, words):
     """Number, place and the line's words afterwards."""
     # "Writer: 1, 2, 3, then 12"
-    refusal = (
-        line_number_refusal(system, line)
-        or slices_refusal(system, words, y, cb, cr)
-        or written_refusal(system, line, y, cb, cr)
-    )
-    # "No refusal writes a buffer."
-    if refusal:
-        return (*refusal, words)
-    figures = SYSTEMS[system]
-    # "On lines with V = 1 the active part is fill"
-    if due_v(system, line):
-        part = FILL[active_start(system) : figures.words]
-    else:
-        part = interleaved(y, cb, cr)
-    eav, sav = timing_code(system, line, 1), timing_code(system, line, 0)
-    return (*ACCEPTED, eav + FILL[CODE_WORDS : figures.sav] + sav + part)
+    refusal = line_number_refusal(system, line)
+    return (*refusal, words) if refusal else write_line(due_of(system, line), y, cb, cr, words)
 
 
 def serial_refusal(bits, last, words, out):
-    # "13 first"; "serial state: scrambled bits over 511 or last bit over 1"
-    if bits > 511 or last > 1:
+    # "13 first"
+    if bits > LAST_SCRAMBLED or last > 1:
         return (WRONG_STATE, 0)
     # "then 3 (place 0 for too long, and after it 1 for unequal output)"
     if len(words) > SERIAL_LIMIT:
@@ -391,10 +543,7 @@ def serial_refusal(bits, last, words, out):
     if len(out) != len(words):
         return (WRONG_LENGTH, 1)
     # "then 5 at the first word over 1023, place its index"
-    for index, word in enumerate(words):
-        if word > LAST_WORD:
-            return (OVER_A_WORD, index)
-    return None
+    return over_refusal(words)
 
 
 def earlier_bits(bits):
@@ -405,7 +554,7 @@ def earlier_bits(bits):
 
 def shifted(bits, scrambled):
     # "the last nine scrambled bits, newest in bit 0"
-    return (bits << 1 | scrambled) & 511
+    return (bits << 1 | scrambled) & LAST_SCRAMBLED
 
 
 def code_bit(bits, last, plain):
@@ -466,70 +615,29 @@ def capture_correct(word):
     return FOURTH_WORDS[fvh] + 4_096 * bit
 
 
+# "two per word, low byte first"
+
+
 def words_of(data):
-    # "two per word, low byte first"
     return list(struct.unpack(f"<{len(data) // 2}H", data))
 
 
+def bytes_of(words):
+    return struct.pack(f"<{len(words)}H", *words)
+
+
 def judge_bytes(walk, data):
-    """Number, place and walk after a line lent as bytes."""
+    """The judgement of a line lent as bytes."""
     refusal = walk_refusal(walk) or bytes_refusal(walk.system, data)
-    if refusal:
-        return (*refusal, walk)
-    words = words_of(data)
-    refusal = line_refusal(walk, words)
-    if refusal:
-        return (*refusal, walk)
-    return (*ACCEPTED, advanced(walk, repaired_codes(walk.system, words)))
+    return refused(walk, *refusal) if refusal else judged(walk, words_of(data))
 
 
-def capture_judge(system, line, lines_read, repairs, data):
+def capture_judge(*arguments):
     """The capture process's judging of a line lent as bytes."""
     # "The byte judge is given every number the walk holds"
-    number, place, walk = judge_bytes(Walk(system, line, lines_read, repairs), data)
-    if number:
-        return capture_refusal(number, place)
+    *numbers, data = arguments
+    judgement = judge_bytes(Walk(*numbers), data)
+    if judgement.number:
+        return capture_refusal(judgement.number, judgement.place)
     # "an accepted line answers its repairs, 0 to 2"
-    return walk.repairs - repairs
-
-
-def header_of(data):
-    # "16-bit words, low byte first: system, start line, then lines. Under 4
-    # bytes of header count as system 0, start 0."
-    return struct.unpack("<2H", data[:4]) if len(data) >= 4 else (0, 0)
-
-
-def confirm_lines(walk, data):
-    """Number, place and walk after the lines of a run."""
-    size = 2 * SYSTEMS[walk.system].words
-    number, place = ACCEPTED
-    for start in range(0, len(data), size):
-        # "Trailing bytes short of a line, or of a word, are refusal 3, place 0;
-        # but any byte after 10,000,000 lines is refusal 4."
-        number, place, walk = judge_bytes(walk, data[start : start + size])
-        # "It stops at the first refusal."
-        if number:
-            break
-    return number, place, walk
-
-
-def confirm_output(system, start, number, place, walk):
-    # "RESULT is number, awaited line, place; the line is 0 for an accepted run
-    # and for refusals 1 and 2."
-    line = 0 if number in (0, NO_SYSTEM, NO_LINE) else walk.line
-    return (
-        f"SYSTEM {system}\n"
-        f"START {start}\n"
-        f"LINES {walk.lines_read}\n"
-        f"REPAIRS {walk.repairs}\n"
-        f"RESULT {number} {line} {place}\n"
-    ).encode("ascii")
-
-
-def confirm(data):
-    """The whole output of the confirming program for one input."""
-    system, start = header_of(data)
-    number, place, walk = fresh(system, start)
-    if not number:
-        number, place, walk = confirm_lines(walk, data[4:])
-    return confirm_output(system, start, number, place, walk)
+    return repairs(judgement.report)

@@ -3,7 +3,7 @@
 import struct
 from typing import Callable, NamedTuple
 
-from independent import calls, judge, protocol
+from independent import calls, judge, protocol, recordings, rows, tapes, totals
 
 
 class Kind(NamedTuple):
@@ -19,16 +19,16 @@ def counted_active(walk, words):
     return len(part), part
 
 
-WALK = ("system", "line", "lines_read", "repairs")
+WALK = judge.Walk._fields
 ANSWER = ("number", "place")
 CORRECTION = ("tag", "fvh", "bit", "number")
 REPORT = ("eav", "eav bit", "sav", "sav bit")
 JUDGEMENT = (*ANSWER, *REPORT, *WALK)
 STATE = ("bits", "last")
 SAMPLES = ("y", "cb", "cr")
-DUE = ("system", "f", "v", "even", "odd")
+DUE = judge.Due._fields
 RUN = ("system", "start", *(f"walk's {name}" for name in WALK), *ANSWER)
-OUTCOME = ("system", "start", "lines", "repairs", "number", "line", "place")
+OUTCOME = recordings.Outcome._fields
 TAPE = (*(f"walk's {name}" for name in WALK), "most", *ANSWER)
 
 
@@ -44,7 +44,7 @@ FILLED = (*wide("have"), "done", "failed")
 LINES = {
     protocol.CORRECT: Kind(judge.correct, ("word",), CORRECTION),
     protocol.FRESH: Kind(judge.fresh, ("system", "line"), (*ANSWER, *WALK)),
-    protocol.READ: Kind(calls.read, ("walk", "words", *SAMPLES), JUDGEMENT),
+    protocol.READ: Kind(judge.read, ("walk", "words", *SAMPLES), JUDGEMENT),
     protocol.ACTIVE: Kind(counted_active, ("walk", "words"), ("count",)),
     protocol.WRITE: Kind(judge.write, ("system", "line", *SAMPLES, "words"), ANSWER),
     protocol.CODE: Kind(judge.code, (*STATE, "words", "out"), (*ANSWER, *STATE)),
@@ -56,56 +56,65 @@ LINES = {
 SHARED = {
     protocol.FOURTH: Kind(calls.fourth, ("fvh",), ("word",)),
     protocol.EXPECTING: Kind(calls.correct_expecting, ("word", "fvh"), CORRECTION),
-    protocol.CODE_REPORT: Kind(calls.code_report, CORRECTION, ("tag", "bit")),
+    protocol.CODE_REPORT: Kind(judge.code_report, CORRECTION, ("tag", "bit")),
     protocol.FLAGS: Kind(calls.flags, ("line",), ("525 v", "525 f", "625 v", "625 f")),
     protocol.OWN_FRESH: Kind(judge.fresh, ("system", "start"), (*ANSWER, *WALK)),
-    protocol.SYSTEM_OF: Kind(calls.system_of, ("number",), ("system",)),
-    protocol.FIGURES: Kind(calls.figures, ("system",), ("words", "sav", "lines")),
-    protocol.SYSTEM_FLAGS: Kind(calls.system_flags, ("system", "line"), ("v", "f")),
-    protocol.REPAIRS: Kind(calls.repairs, ("report",), ("repairs",)),
+    protocol.SYSTEM_OF: Kind(judge.system_of, ("number",), ("system",)),
+    protocol.FIGURES: Kind(calls.figures, ("system",), ("words", "sav", "active", "lines")),
+    protocol.SYSTEM_FLAGS: Kind(calls.system_flags, ("system", "line"), ("v", "f", "next line")),
+    protocol.REPAIRS: Kind(judge.repairs, ("report",), ("repairs",)),
     protocol.WALK_REFUSAL: Kind(calls.walk_refusal, ("walk",), ANSWER),
-    protocol.STEPPED: Kind(calls.stepped, ("walk", "report"), WALK),
-    protocol.DUE_OF: Kind(calls.due_of, ("system", "line"), DUE),
-    protocol.DUE_FLAGS: Kind(calls.due_flags, ("due", "h"), ("fvh",)),
+    protocol.MOVED: Kind(calls.moved, ("walk", "due", "report"), WALK),
+    protocol.NAMED: Kind(calls.named_refusal, ("system", "line"), ANSWER),
+    protocol.STANDING: Kind(calls.standing, ("walk", "given", "due"), ANSWER),
+    protocol.DUE_OF: Kind(judge.due_of, ("system", "line"), DUE),
+    protocol.DUE_FLAGS: Kind(judge.due_flags, ("due", "h"), ("fvh",)),
     protocol.DUE_AT: Kind(calls.due_at, ("due", "offset"), ("what", "value")),
     protocol.BUFFER_REFUSAL: Kind(calls.buffer_refusal, SAMPLES, ANSWER),
-    protocol.REFUSED: Kind(calls.refused, ("walk", *ANSWER), JUDGEMENT),
-    protocol.ACCEPTED: Kind(calls.accepted, ("walk", "report"), JUDGEMENT),
-    protocol.JUDGE: Kind(calls.judged, ("walk", "words"), JUDGEMENT),
-    protocol.SPLIT: Kind(calls.split, ("part", *SAMPLES), ANSWER),
-    protocol.LENT_JUDGE: Kind(calls.lent_judge, ("walk", "data"), JUDGEMENT),
+    protocol.WALK_DUE: Kind(judge.walk_due, ("walk", "fourth"), DUE),
+    protocol.RESERVED: Kind(calls.reserved, ("word",), ("reserved",)),
+    protocol.WORD_OF: Kind(
+        calls.word_and_pair, ("low", "high", "first", "second"), ("word", "pair")
+    ),
+    protocol.FIRST_OVER: Kind(calls.first_over, ("words",), ANSWER),
+    protocol.REFUSED: Kind(judge.refused, ("walk", *ANSWER), JUDGEMENT),
+    protocol.ACCEPTED: Kind(calls.accepted, ("walk", "due", "report"), JUDGEMENT),
+    protocol.JUDGE: Kind(judge.judged, ("walk", "words"), JUDGEMENT),
+    protocol.WRITE_LINE: Kind(calls.write_line, ("due", *SAMPLES, "words"), ANSWER),
+    protocol.WRITE_PART: Kind(calls.write_part, ("due", "part", "words"), ANSWER),
+    protocol.BYTEWISE_JUDGE: Kind(judge.judge_bytes, ("walk", "data"), JUDGEMENT),
     protocol.TO_WORDS: Kind(calls.to_words, ("data", "words"), ANSWER),
     protocol.TO_BYTES: Kind(calls.to_bytes, ("words", "data"), ANSWER),
     protocol.STATE_FRESH: Kind(calls.fresh_state, (), STATE),
 }
 
 PROGRAMMES = {
-    protocol.UNPACK: Kind(calls.unpack, ("row", "samples"), ANSWER),
-    protocol.PACK: Kind(calls.pack, ("samples", "row"), ANSWER),
-    protocol.RECORD: Kind(calls.record, ("walk", "row", "line"), JUDGEMENT),
-    protocol.EXTRACT: Kind(calls.extract, ("walk", "data", "row"), JUDGEMENT),
-    protocol.TAKES_ROW: Kind(calls.takes_row, ("walk",), ("takes",)),
-    protocol.ENDS_FRAME: Kind(calls.ends_frame, ("walk",), ("ends",)),
-    protocol.PIECE_LINES: Kind(calls.piece_lines, ("system", "frames"), ("lines",)),
-    protocol.ENDS_PIECE: Kind(calls.ends_piece, ("walk", "most"), ("ends",)),
-    protocol.EXTRACT_NEXT: Kind(calls.extract_next, ("run", "data", "row"), (*RUN, "gives")),
-    protocol.TAPE_BEGIN: Kind(calls.begin_tape, ("system", "start", "most"), TAPE),
-    protocol.TURNS: Kind(calls.turns, ("tape",), ("turns",)),
-    protocol.TURNED: Kind(calls.turned, ("tape",), TAPE),
-    protocol.TAPE_ENDS: Kind(calls.tape_ends, ("tape",), ("ends",)),
-    protocol.TAPE_NEXT: Kind(calls.tape_next, ("tape", "row", "line"), TAPE),
-    protocol.LINE_BYTES: Kind(calls.line_bytes, ("walk",), ("bytes",)),
-    protocol.BEGIN: Kind(calls.begin, ("header",), RUN),
-    protocol.NEXT: Kind(calls.with_line, ("run", "data"), RUN),
-    protocol.FOLLOW: Kind(calls.follow, ("run", "data"), (*RUN, "taken")),
-    protocol.CLOSE: Kind(calls.close, ("run", "data"), RUN),
-    protocol.OUTCOME: Kind(calls.outcome, ("run",), OUTCOME),
-    protocol.FOLLOWS_ON: Kind(calls.follows_on, ("before", "run"), ("follows",)),
-    protocol.NO_TOTALS: Kind(calls.no_totals, (), TOTALS),
-    protocol.WITH_READ: Kind(calls.with_read, ("totals", "outcome"), TOTALS),
-    protocol.WITH_UNREAD: Kind(calls.with_unread, ("totals",), TOTALS),
-    protocol.TOTAL_LINES: Kind(calls.total_lines, ("totals",), wide("lines")),
-    protocol.HOURS: Kind(calls.hours, ("totals",), wide("parts")),
+    protocol.UNPACK: Kind(rows.unpack, ("row", "samples"), ANSWER),
+    protocol.PACK: Kind(rows.pack, ("samples", "row"), ANSWER),
+    protocol.RECORD: Kind(tapes.record, ("walk", "row", "line"), JUDGEMENT),
+    protocol.EXTRACT: Kind(tapes.extract, ("walk", "data", "row"), JUDGEMENT),
+    protocol.TAKES_ROW: Kind(tapes.takes_row, ("walk",), ("takes",)),
+    protocol.ENDS_FRAME: Kind(tapes.ends_frame, ("walk",), ("ends",)),
+    protocol.PIECE_LINES: Kind(tapes.piece_lines, ("system", "frames"), ("lines",)),
+    protocol.ENDS_PIECE: Kind(tapes.ends_piece, ("walk", "most"), ("ends",)),
+    protocol.EXTRACT_NEXT: Kind(tapes.extract_next, ("run", "data", "row"), (*RUN, "gives")),
+    protocol.TAPE_BEGIN: Kind(tapes.begin_tape, ("system", "start", "most"), TAPE),
+    protocol.TURNS: Kind(tapes.turns, ("tape",), ("turns",)),
+    protocol.TURNED: Kind(tapes.turned, ("tape",), TAPE),
+    protocol.TAPE_ENDS: Kind(tapes.tape_ends, ("tape",), ("ends",)),
+    protocol.TAPE_NEXT: Kind(tapes.tape_next, ("tape", "row", "line"), TAPE),
+    protocol.LINE_BYTES: Kind(calls.line_sizes, ("walk",), ("words", "bytes")),
+    protocol.BEGIN: Kind(recordings.begin, ("header",), RUN),
+    protocol.NEXT: Kind(recordings.with_line, ("run", "data"), RUN),
+    protocol.FOLLOW: Kind(recordings.follow, ("run", "data"), (*RUN, "taken")),
+    protocol.CLOSE: Kind(recordings.close, ("run", "data"), RUN),
+    protocol.OUTCOME: Kind(recordings.outcome, ("run",), OUTCOME),
+    protocol.FOLLOWS_ON: Kind(recordings.follows_on, ("before", "run"), ("follows",)),
+    protocol.NO_TOTALS: Kind(totals.no_totals, (), TOTALS),
+    protocol.WITH_READ: Kind(totals.with_read, ("totals", "outcome"), TOTALS),
+    protocol.WITH_UNREAD: Kind(totals.with_unread, ("totals",), TOTALS),
+    protocol.TOTAL_LINES: Kind(totals.total_lines, ("totals",), wide("lines")),
+    protocol.HOURS: Kind(totals.hours, ("totals",), wide("parts")),
 }
 
 ARRIVALS = {
@@ -141,23 +150,35 @@ ASKED = {
     protocol.FIGURES: (
         "system::System::line_length",
         "system::System::sav_offset",
+        "system::System::active_offset",
         "system::System::line_count",
     ),
-    protocol.SYSTEM_FLAGS: ("system::System::v", "system::System::f"),
+    protocol.SYSTEM_FLAGS: (
+        "system::System::v",
+        "system::System::f",
+        "system::System::next_line",
+    ),
     protocol.REPAIRS: ("system::repairs",),
     protocol.WALK_REFUSAL: ("system::Walk::refusal",),
-    protocol.STEPPED: ("system::Walk::stepped",),
-    protocol.DUE_OF: ("line::Due::of",),
-    protocol.DUE_FLAGS: ("line::Due::flags",),
-    protocol.DUE_AT: ("line::Due::at",),
+    protocol.MOVED: ("system::Walk::moved",),
+    protocol.NAMED: ("system::named_refusal",),
+    protocol.STANDING: ("system::Walk::standing",),
+    protocol.DUE_OF: ("system::Due::of",),
+    protocol.DUE_FLAGS: ("system::Due::flags",),
+    protocol.DUE_AT: ("line::due_at",),
     protocol.BUFFER_REFUSAL: ("line::buffer_refusal",),
-    protocol.REFUSED: ("reader::Judgement::refused",),
-    protocol.ACCEPTED: ("reader::Judgement::accepted",),
+    protocol.WALK_DUE: ("system::Walk::due",),
+    protocol.RESERVED: ("line::reserved",),
+    protocol.WORD_OF: ("words::word_of", "words::pair_of"),
+    protocol.FIRST_OVER: ("words::first_over",),
+    protocol.REFUSED: ("system::Judgement::refused",),
+    protocol.ACCEPTED: ("system::Judgement::accepted",),
     protocol.JUDGE: ("reader::judge",),
-    protocol.SPLIT: ("reader::split",),
-    protocol.LENT_JUDGE: ("lent::judge",),
-    protocol.TO_WORDS: ("lent::to_words",),
-    protocol.TO_BYTES: ("lent::to_bytes",),
+    protocol.WRITE_LINE: ("writer::write_line",),
+    protocol.WRITE_PART: ("writer::write_part",),
+    protocol.BYTEWISE_JUDGE: ("bytewise::judge",),
+    protocol.TO_WORDS: ("words::to_words",),
+    protocol.TO_BYTES: ("words::to_bytes",),
     protocol.STATE_FRESH: ("serial::State::fresh",),
     protocol.UNPACK: ("v210::unpack",),
     protocol.PACK: ("v210::pack",),
@@ -173,7 +194,7 @@ ASKED = {
     protocol.TURNED: ("programme::Tape::turned",),
     protocol.TAPE_ENDS: ("programme::Tape::ends",),
     protocol.TAPE_NEXT: ("programme::Tape::next",),
-    protocol.LINE_BYTES: ("confirmation::line_bytes",),
+    protocol.LINE_BYTES: ("system::Walk::line_words", "system::Walk::line_bytes"),
     protocol.BEGIN: ("confirmation::Run::begin",),
     protocol.NEXT: ("confirmation::Run::next",),
     protocol.FOLLOW: ("confirmation::Run::follow",),
@@ -198,13 +219,18 @@ NOT_ASKED = {
         "what the system has: compared as the command",
     ),
     "speed": "reader, writer and serial once more, for the benchmark only",
+    "system::Walk::of": "every walk that a kind brings is made by it",
 }
 
 
-def expected_answer(case):
+def answer_parts(case):
+    """The numbers and the slices of the answer that is due."""
     result = KINDS[case.kind].call(*case.arguments)
-    values = result if isinstance(result, tuple) else (result,)
-    numbers, slices = protocol.parted(values)
+    return protocol.parted(result if isinstance(result, tuple) else (result,))
+
+
+def expected_answer(case):
+    numbers, slices = answer_parts(case)
     return protocol.pack_numbers(*numbers) + protocol.pack_slices(slices)
 
 

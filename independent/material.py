@@ -1,45 +1,14 @@
 """What cases and runs are made of: random numbers of fixed seed, lines, edges and faults."""
 
-from itertools import combinations
+from itertools import combinations, product
 from random import Random
 from typing import NamedTuple
 
 from independent import judge
+from independent.edges import RESERVED_WORDS, SYSTEMS
+from independent.judge import CODE_BITS, fourth_offsets, line_after, samples_of
 
-HIGHEST = 2**32 - 1
 STORE_SIZE = 20_000
-
-SYSTEMS = tuple(judge.SYSTEMS)
-CODE_BITS = range(2, 9)
-
-# Words about each limit that a rule draws, and words beyond ten bits.
-EDGE_WORDS = (
-    0, 3, 4, 63, 64, 65, 511, 512, 513, 1019, 1020, 1023, 1024, 1024 + 512, 32768, 65535,
-)  # fmt: skip
-RESERVED_WORDS = (0, 1, 2, 3, 1020, 1021, 1022, 1023)
-
-WRONG_SYSTEMS = (
-    0, 1, 524, 526, 624, 626, 65_536, 65_536 + 525, 65_536 + 625, 2**31 + 625, HIGHEST,
-)  # fmt: skip
-EDGE_LINES = (
-    0, 1, 2, 524, 525, 526, 624, 625, 626, 65_535, 65_536, 65_537, 2**31 + 1, HIGHEST,
-)  # fmt: skip
-EDGE_COUNTS = (
-    (0, 0),
-    (0, 1),
-    (1, 2),
-    (1, 3),
-    (5, HIGHEST),
-    (9_999_999, 0),
-    (9_999_999, 19_999_998),
-    (9_999_999, 19_999_999),
-    (10_000_000, 0),
-    (10_000_000, 20_000_001),
-    (2**31, 0),
-    (2**31 + 1, 2),
-    (HIGHEST, 0),
-    (HIGHEST, HIGHEST),
-)
 
 
 class Choice(NamedTuple):
@@ -57,28 +26,18 @@ def inverted(count):
     return [sum(1 << bit for bit in bits) for bits in combinations(CODE_BITS, count)]
 
 
-def code_starts(system):
-    """Offsets of EAV and SAV."""
-    return 0, judge.SYSTEMS[system].sav
-
-
-def fourth_offsets(system):
-    return [start + len(judge.PREAMBLE) for start in code_starts(system)]
-
-
 def timing_offsets(system):
     """Offsets of all timing words."""
-    return [
-        start + n for start in code_starts(system) for n in range(judge.CODE_WORDS)
-    ]
+    starts = judge.code_starts(system)
+    return [start + n for start in starts for n in range(judge.CODE_WORDS)]
 
 
 def edge_offsets(system):
     """First and last offsets of each part, and their neighbours."""
-    figures = judge.SYSTEMS[system]
-    starts = (0, judge.CODE_WORDS, figures.sav, judge.active_start(system), figures.words)
-    near = {start + n for start in starts for n in (-2, -1, 0, 1)}
-    return sorted(offset for offset in near if 0 <= offset < figures.words)
+    words = judge.SYSTEMS[system].words
+    codes = [start + n for start in judge.code_starts(system) for n in (0, judge.CODE_WORDS)]
+    near = {edge + n for edge in (*codes, words) for n in (-2, -1, 0, 1)}
+    return sorted(offset for offset in near if 0 <= offset < words)
 
 
 def line_numbers(system):
@@ -105,11 +64,6 @@ def plain_and_blank_line(system):
     ]
 
 
-def line_after(system, line, steps):
-    """The line so many steps on, or back; line 1 follows the last."""
-    return (line - 1 + steps) % judge.SYSTEMS[system].lines + 1
-
-
 def turning_lines(system):
     """Each line of other F or V than the line before it."""
     return [
@@ -119,11 +73,16 @@ def turning_lines(system):
     ]
 
 
+def of_both(lines):
+    """The systems, each with its lines."""
+    for system in SYSTEMS:
+        for line in lines(system):
+            yield system, line
+
+
 def chosen_lines():
     """A line of each system, F and V."""
-    for system in SYSTEMS:
-        for line in line_of_each_kind(system):
-            yield system, line
+    return of_both(line_of_each_kind)
 
 
 def word_lengths(system):
@@ -133,9 +92,17 @@ def word_lengths(system):
     return due, 0, due - 1, due + 1, other
 
 
+def slice_lengths(system):
+    """Lengths of words, Y, CB and CR, right and wrong, in all ways."""
+    y, c = judge.Y_SAMPLES, judge.C_SAMPLES
+    y_lengths = (y, 0, y - 1, y + 1)
+    c_lengths = (c, 0, c - 1, c + 1)
+    return product(word_lengths(system), y_lengths, c_lengths, c_lengths)
+
+
 def stretched(words, length):
     """The line cut, or lengthened by more fill."""
-    return (words + judge.FILL)[:length]
+    return (words + [*judge.FILL] * length)[:length]
 
 
 def changed(words, changes):
@@ -168,8 +135,7 @@ class Source:
 
     def junk_buffers(self):
         """Sample buffers of the right lengths with words of any 16 bits."""
-        due = (judge.Y_SAMPLES, judge.C_SAMPLES, judge.C_SAMPLES)
-        return [self.junk(length) for length in due]
+        return [self.junk(length) for length in judge.SAMPLE_LENGTHS]
 
     def picture(self):
         """Samples for one line, in the order of the active part."""
@@ -191,6 +157,15 @@ class Source:
     def walk(self, system, line):
         return judge.Walk(system, line, *self.counts())
 
+    def offered(self, lines):
+        """Clean lines, each behind a walk that awaits it."""
+        for system, line in lines:
+            words = self.written(system, line)
+            yield self.walk(system, line), words
+
+    def serial_state(self):
+        return self.random.randrange(judge.LAST_SCRAMBLED + 1), self.random.randrange(2)
+
     def over(self, word):
         """The same ten bits with a higher bit set."""
         return word | 1 << self.random.randrange(judge.WORD_BITS, 16)
@@ -198,13 +173,14 @@ class Source:
     def wrong(self, system, line, offset, word):
         """A word of ten bits that is refused at that offset."""
         fault = self.random.choice
-        if offset in fourth_offsets(system):
+        what, _ = judge.due_at(judge.due_of(system, line), offset)
+        if what == judge.FOURTH_WORD:
             return word ^ fault([judge.BIT_9, *inverted(2)])
-        if offset in timing_offsets(system):
-            return word ^ 1 << fault(range(2, judge.WORD_BITS))
-        if offset < judge.active_start(system) or judge.due_v(system, line):
+        if what == judge.FILL_WORD:
             return word ^ 1 << fault(range(judge.WORD_BITS))
-        return fault(RESERVED_WORDS)
+        if what == judge.SAMPLE:
+            return fault(RESERVED_WORDS)
+        return word ^ 1 << fault(range(2, judge.WORD_BITS))
 
     def with_inversions(self, system, words, masks):
         """The same line with the bits of some mask inverted in each fourth word."""
@@ -221,11 +197,6 @@ class Source:
             for offset in timing_offsets(system)
         }
         return changed(words, low)
-
-
-def samples_of(part):
-    """Y, CB and CR of an active part."""
-    return [part[judge.Y_PLACES], part[judge.CB_PLACES], part[judge.CR_PLACES]]
 
 
 def line_for(source, system, line):

@@ -11,6 +11,8 @@ and what it answers, is in kinds.py.
 import struct
 from typing import NamedTuple
 
+from independent.judge import bytes_of
+
 (
     CORRECT,
     FRESH,
@@ -31,12 +33,14 @@ FOURTH, EXPECTING, CODE_REPORT = range(10, 13)
     SYSTEM_FLAGS,
     REPAIRS,
     WALK_REFUSAL,
-    STEPPED,
-) = range(20, 28)
-DUE_OF, DUE_FLAGS, DUE_AT, BUFFER_REFUSAL = range(30, 34)
-REFUSED, ACCEPTED, JUDGE, SPLIT = range(40, 44)
+    MOVED,
+    NAMED,
+    STANDING,
+) = range(20, 30)
+DUE_OF, DUE_FLAGS, DUE_AT, BUFFER_REFUSAL, WALK_DUE, RESERVED, WORD_OF, FIRST_OVER = range(30, 38)
+REFUSED, ACCEPTED, JUDGE, WRITE_LINE, WRITE_PART = range(40, 45)
 STATE_FRESH = 50
-LENT_JUDGE, TO_WORDS, TO_BYTES = range(60, 63)
+BYTEWISE_JUDGE, TO_WORDS, TO_BYTES = range(60, 63)
 UNPACK, PACK = range(70, 72)
 RECORD, EXTRACT, TAKES_ROW, ENDS_FRAME, PIECE_LINES, ENDS_PIECE, EXTRACT_NEXT = range(80, 87)
 LINE_BYTES, BEGIN, FOLLOW, CLOSE, OUTCOME, FOLLOWS_ON, NEXT = range(90, 97)
@@ -63,10 +67,8 @@ def pack_numbers(*numbers):
 
 
 def pack_slice(words):
-    """Words two bytes each; bytes as they are."""
-    if isinstance(words, bytes):
-        return words
-    return struct.pack(f"<{len(words)}H", *words)
+    """Words as bytes; bytes as they are."""
+    return words if isinstance(words, bytes) else bytes_of(words)
 
 
 def pack_slices(slices):

@@ -4,16 +4,10 @@ from itertools import product
 from typing import NamedTuple, Union
 
 from independent import judge
-from independent.material import (
-    SYSTEMS,
-    Source,
-    changed,
-    edge_offsets,
-    fourth_offsets,
-    inverted,
-    line_after,
-)
-from independent.protocol import pack_slice
+from independent.edges import SYSTEMS
+from independent.judge import fourth_offsets, line_after
+from independent.material import Source, changed, edge_offsets, inverted
+from independent.recordings import HEADER_BYTES, header, header_of, lines_of, recording
 
 # Ways to hand over an input; a number is the size of pieces handed over one by one.
 FILE = "file"
@@ -32,22 +26,21 @@ class Run(NamedTuple):
     delivery: Union[str, int]
 
 
-def header(system, start):
-    return pack_slice([system, start])
-
-
 def clean_lines(source, system, start, count):
     lines = [line_after(system, start, steps) for steps in range(count)]
     return [source.written(system, line) for line in lines]
 
 
-def recording(system, start, lines):
-    return header(system, start) + b"".join(map(pack_slice, lines))
-
-
 def three_lines(source, system):
     start = STARTS[system]
     return recording(system, start, clean_lines(source, system, start, 3))
+
+
+def damaged(source, data):
+    """A recording with one bit of the seven inverted in every code, and any low bits."""
+    system, start = header_of(data)
+    lines = [source.with_inversions(system, words, inverted(1)) for words in lines_of(data)]
+    return recording(system, start, [source.low_bits(system, words) for words in lines])
 
 
 def headers(source):
@@ -66,9 +59,9 @@ def headers(source):
 
 def cut_sizes(system):
     """Every size of a recording of three lines near an edge of a word, code, part or line."""
-    size = 2 * judge.SYSTEMS[system].words
+    size = judge.line_size(system)
     edges = [2 * offset for offset in edge_offsets(system)] + [size]
-    starts = [len(header(system, 1)) + n * size for n in range(3)]
+    starts = [HEADER_BYTES + n * size for n in range(3)]
     return sorted({s + e + n for s, e, n in product(starts, edges, range(-3, 4))})
 
 
@@ -115,30 +108,35 @@ def replaced(lines, n, changes):
     return [*lines[:n], changed(lines[n], changes), *lines[n + 1 :]]
 
 
-def refused_words(source):
-    """One word over 1023, or otherwise wrong, in the first, second or third line."""
+def words_of_three_lines(source, offsets):
+    """System, line, offset and word of three lines, and the recording with another word there."""
     for system in SYSTEMS:
         start = STARTS[system]
         lines = clean_lines(source, system, start, 3)
-        for n, offset in product(range(3), edge_offsets(system)):
-            word = lines[n][offset]
-            line = line_after(system, start, n)
-            for fault in (source.over(word), source.wrong(system, line, offset, word)):
-                yield recording(system, start, replaced(lines, n, {offset: fault})), PIPE
+        for n, offset in product(range(3), offsets(system)):
+
+            def with_fault(fault):
+                return recording(system, start, replaced(lines, n, {offset: fault}))
+
+            yield system, n, offset, lines[n][offset], with_fault
+
+
+def refused_words(source):
+    """One word over 1023, or otherwise wrong, in the first, second or third line."""
+    for system, n, offset, word, with_fault in words_of_three_lines(source, edge_offsets):
+        line = line_after(system, STARTS[system], n)
+        for fault in (source.over(word), source.wrong(system, line, offset, word)):
+            yield with_fault(fault), PIPE
 
 
 def refused_codes(source):
     """Fourth words refused with 7, 8 and 9; the same with bytes wanting at the end."""
-    for system in SYSTEMS:
-        start = STARTS[system]
-        lines = clean_lines(source, system, start, 3)
-        for n, offset in product(range(3), fourth_offsets(system)):
-            word = lines[n][offset]
-            others = [w for w in judge.FOURTH_WORDS if w != word]
-            for fault in (word ^ judge.BIT_9, word ^ 12, word ^ 448, *others):
-                whole = recording(system, start, replaced(lines, n, {offset: fault}))
-                yield whole, PIPE
-                yield whole[:-1], PIPE
+    for *_, word, with_fault in words_of_three_lines(source, fourth_offsets):
+        others = [w for w in judge.FOURTH_WORDS if w != word]
+        for fault in (word ^ judge.BIT_9, word ^ 12, word ^ 448, *others):
+            whole = with_fault(fault)
+            yield whole, PIPE
+            yield whole[:-1], PIPE
 
 
 def foreign_lines(source):
@@ -155,8 +153,9 @@ def pieces(source):
     """Small inputs byte by byte, larger ones in odd pieces."""
     for system in SYSTEMS:
         whole = three_lines(source, system)
-        size = 2 * judge.SYSTEMS[system].words
-        for end in (0, 1, 2, 3, 4, 5, 6, 7, 100, 4 + size - 1, 4 + size, 4 + size + 3):
+        size = judge.line_size(system)
+        line_end = HEADER_BYTES + size
+        for end in (*range(8), 100, line_end - 1, line_end, line_end + 3):
             yield whole[:end], 1
         yield header(system, 0) + bytes(20), 1
         yield whole[:100] + bytes(size), 1

@@ -6,11 +6,12 @@ Run: python3 -m independent.samples DIR
 import pathlib
 import sys
 
-from independent.material import Source, fourth_offsets, inverted
-from independent.runs import clean_lines, recording
+from independent.material import Source, inverted
+from independent.recordings import recording
+from independent.runs import clean_lines
 
-# Each starts on V = 1 lines and goes on to V = 0 lines; that of 525 wraps from its last line to line 1 on the way.
-STARTS = {525: (524, 22), 625: (21, 4)}
+# Where each starts and how many lines it has: from V = 1 lines to V = 0 lines, in 525 over line 1.
+SPANS = {525: (524, 22), 625: (21, 4)}
 
 
 def damaged(source, system, lines, masks):
@@ -22,11 +23,12 @@ def damaged(source, system, lines, masks):
 
 
 def samples():
-    for system, (start, count) in STARTS.items():
+    for system, (start, count) in SPANS.items():
         source = Source(656, f"samples {system}")
         lines = clean_lines(source, system, start, count)
         yield f"{system}.rec", recording(system, start, lines)
-        yield f"{system}-repaired.rec", recording(system, start, damaged(source, system, lines, inverted(1)))
+        repaired = damaged(source, system, lines, inverted(1))
+        yield f"{system}-repaired.rec", recording(system, start, repaired)
         spoilt = lines[:2] + damaged(source, system, lines[2:4], inverted(2))
         yield f"{system}-spoilt.rec", recording(system, start, spoilt)
 

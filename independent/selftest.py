@@ -5,18 +5,19 @@ Run: python3 -m independent.selftest
 
 import sys
 
-from independent import calls_selftest, command_selftest, judge, programme
-from independent.material import changed, fourth_offsets
+from independent import calls_selftest, command_selftest, judge, programme_selftest
+from independent.edges import LISTED_LENGTHS, LISTED_LINES, LISTED_SAMPLES, LISTED_SERIAL
+from independent.judge import CLEAN_REPORT, FRESH_STATE, Report, Walk, fourth_offsets
+from independent.material import changed
 from independent.protocol import pack_slice
-from independent.runs import header
+from independent.recordings import Run, confirm, header, run_on
 
-FRESH_STATE = (0, 0)
 KEPT = [65535]
 
 
 def buffers(value=7):
     """Sample buffers of the right lengths, holding one value."""
-    return [[value] * n for n in (judge.Y_SAMPLES, judge.C_SAMPLES, judge.C_SAMPLES)]
+    return [[value] * length for length in judge.SAMPLE_LENGTHS]
 
 
 def empty_line(system):
@@ -28,7 +29,7 @@ def written(system, line):
 
 
 def reading(system, line, words, lines_read=0, repairs=0, lent=9):
-    return judge.read((system, line, lines_read, repairs), words, *buffers(lent))
+    return judge.read(Walk(system, line, lines_read, repairs), words, *buffers(lent))
 
 
 def output(system, start, lines, repairs, result):
@@ -59,7 +60,7 @@ def marked_samples():
 
 def listed_samples():
     first = judge.active_start(625)
-    for sample, number in ((3, 11), (4, 0), (1019, 0), (1020, 11)):
+    for sample, number in zip(LISTED_SAMPLES, (11, 0, 0, 11)):
         line = changed(written(625, 23), {first + 5: sample})
         place = first + 5 if number else 0
         yield f"read {sample}", reading(625, 23, line)[:2], (number, place)
@@ -70,7 +71,7 @@ def listed_samples():
 
 
 def listed_lines():
-    for line in (0, 1, 525, 526, 625, 626):
+    for line in LISTED_LINES:
         for system in judge.SYSTEMS:
             due = line in range(1, system + 1)
             expected = (0, 0, (system, line, 0, 0)) if due else (2, 0, (0, 0, 0, 0))
@@ -78,7 +79,7 @@ def listed_lines():
 
 
 def listed_lengths():
-    for count in (1715, 1716, 1728, 1729):
+    for count in LISTED_LENGTHS:
         for system, figures in judge.SYSTEMS.items():
             words = (written(system, 30) + [512] * 13)[:count]
             due = count == figures.words
@@ -89,14 +90,14 @@ def listed_lengths():
 def listed_counts():
     line = written(525, 525)
     answer = reading(525, 525, line, lines_read=9_999_999)
-    yield "9,999,999 lines read", answer[:5], (0, 0, 0, 0, (525, 1, 10_000_000, 0))
+    yield "9,999,999 lines read", answer[:4], (0, 0, CLEAN_REPORT, (525, 1, 10_000_000, 0))
     answer = reading(525, 525, line, lines_read=10_000_000)
     yield "10,000,000 lines read", answer[:2], (4, 0)
 
 
 def listed_serial():
     for call in (judge.code, judge.decode):
-        for count, number in ((65_536, 0), (65_537, 3)):
+        for count, number in zip(LISTED_SERIAL, (0, 3)):
             answer = call(*FRESH_STATE, [5] * count, [9] * count)
             yield f"{call.__name__} {count}", answer[:2], (number, 0)
 
@@ -130,13 +131,13 @@ def drawn_errors():
             bad = changed(line, {code: 632})
             yield f"632 at {code}", reading(system, 100, bad)[:2], (8, code)
         low = changed(line, {0: 1020, 1: 3, 2: 1, eav: 631, sav: line[sav] | 3})
-        yield "631 read", reading(system, 100, low)[:4], (0, 0, 0, 0)
+        yield "631 read", reading(system, 100, low)[:3], (0, 0, CLEAN_REPORT)
         last = judge.SYSTEMS[system].words - 1
         bad = changed(line, {last: 1023})
-        kept = (11, last, 0, 0, (system, 100, 4, 1), *buffers(9))
+        kept = (11, last, CLEAN_REPORT, (system, 100, 4, 1), *buffers(9))
         yield "bad last word", reading(system, 100, bad, 4, 1), kept
         both = changed(line, {eav: line[eav] ^ 4, sav: line[sav] ^ 256})
-        counted = (0, 0, 2, 8, (system, 101, 5, 3), *buffers())
+        counted = (0, 0, Report(1, 2, 1, 8), (system, 101, 5, 3), *buffers())
         yield "two repaired codes", reading(system, 100, both, 4, 1), counted
 
 
@@ -150,10 +151,10 @@ def orders_of_refusal():
         ((625, 1, 3, 6), (3, 0)),
     )
     for walk, expected in cases:
-        yield f"order at {walk}", judge.read(walk, short, [], [], [])[:2], expected
+        yield f"order at {walk}", judge.read(Walk(*walk), short, [], [], [])[:2], expected
     y, cb, cr = buffers()
     for lent, place in (((y[1:], [], []), 1), ((y, [], cr[1:]), 2), ((y, cb, []), 3)):
-        answer = judge.read((625, 1, 0, 0), written(625, 1), *lent)
+        answer = judge.read(Walk(625, 1, 0, 0), written(625, 1), *lent)
         yield f"length of {place}", answer[:2], (3, place)
     line = written(625, 1)
     sav, active = judge.SYSTEMS[625].sav, judge.active_start(625)
@@ -174,15 +175,15 @@ def orders_of_refusal():
 def blank_lines():
     line = written(625, 22)
     answer = reading(625, 22, line, lent=65535)
-    yield "V = 1 keeps buffers", answer[5:], tuple(buffers(65535))
-    yield "V = 1 is fill", line[judge.active_start(625) :], [512, 64] * 720
+    yield "V = 1 keeps buffers", answer[4:], tuple(buffers(65535))
+    yield "V = 1 is fill", judge.active_part(625, line), [512, 64] * 720
     answer = judge.write(625, 22, *buffers(3), empty_line(625))
     yield "V = 1 looks at no sample", answer, (0, 0, line)
 
 
 def active_parts():
     line = written(525, 20)
-    walk = (525, 20, 0, 0)
+    walk = Walk(525, 20, 0, 0)
     yield "active part", judge.active(walk, line), [7] * 1440
     yield "empty part", judge.active(walk, changed(line, {len(line) - 1: 3})), []
     yield "empty part of a short line", judge.active(walk, line[1:]), []
@@ -228,17 +229,18 @@ def captures():
 def confirmed_runs():
     lines = [pack_slice(written(625, line)) for line in (22, 23)]
     run = header(625, 22) + b"".join(lines)
-    yield "confirmed", judge.confirm(run), output(625, 22, 2, 0, "0 0 0")
-    yield "header alone", judge.confirm(run[:4]), output(625, 22, 0, 0, "0 0 0")
-    yield "short header", judge.confirm(run[:3]), output(0, 0, 0, 0, "1 0 0")
-    yield "no line", judge.confirm(header(625, 626)), output(625, 626, 0, 0, "2 0 0")
-    yield "no system", judge.confirm(header(5, 22)), output(5, 22, 0, 0, "1 0 0")
-    yield "trailing", judge.confirm(run + b"\0"), output(625, 22, 2, 0, "3 24 0")
+    yield "confirmed", confirm(run), output(625, 22, 2, 0, "0 0 0")
+    yield "header alone", confirm(run[:4]), output(625, 22, 0, 0, "0 0 0")
+    yield "short header", confirm(run[:3]), output(0, 0, 0, 0, "1 0 0")
+    yield "no line", confirm(header(625, 626)), output(625, 626, 0, 0, "2 0 0")
+    yield "no system", confirm(header(5, 22)), output(5, 22, 0, 0, "1 0 0")
+    yield "trailing", confirm(run + b"\0"), output(625, 22, 2, 0, "3 24 0")
     repeated = header(625, 22) + lines[0] + lines[0]
-    yield "repeated", judge.confirm(repeated), output(625, 22, 1, 0, "9 23 3")
-    full = judge.Walk(625, 24, 10_000_000, 0)
-    yield "any byte after the limit", judge.confirm_lines(full, b"\0"), (4, 0, full)
-    yield "no byte after the limit", judge.confirm_lines(full, b""), (0, 0, full)
+    yield "repeated", confirm(repeated), output(625, 22, 1, 0, "9 23 3")
+    full = Walk(625, 24, 10_000_000, 0)
+    at_limit = Run(625, 24, full, 0, 0)
+    yield "any byte after the limit", run_on(at_limit, b"\0"), (625, 24, full, 4, 0)
+    yield "no byte after the limit", run_on(at_limit, b""), at_limit
 
 
 GROUPS = (
@@ -257,7 +259,7 @@ GROUPS = (
     serial_states,
     captures,
     confirmed_runs,
-    *programme.GROUPS,
+    *programme_selftest.GROUPS,
     *command_selftest.GROUPS,
     *calls_selftest.GROUPS,
 )

@@ -3,19 +3,16 @@
 from itertools import cycle, product
 
 from independent import calls, judge, protocol
-from independent.call_cases import (
-    ANY_SYSTEMS,
-    EDGE_NUMBERS,
-    EDGE_SUMS,
-    MOSTS,
-    any_walks,
-    full_pieces,
-)
-from independent.calls import Filled, Tape, Told
+from independent.call_cases import any_walks, full_pieces
+from independent.calls import Filled, Told
+from independent.edges import ANY_SYSTEMS, EDGE_LINES, EDGE_NUMBERS, EDGE_SUMS
+from independent.edges import HIGHEST, MOSTS, SYSTEMS
 from independent.judge import LINES_LIMIT, Walk
-from independent.material import EDGE_LINES, HIGHEST, SYSTEMS, chosen_lines
-from independent.programme import ROW_BYTES, row_of
+from independent.material import chosen_lines
 from independent.protocol import Wide
+from independent.recordings import line_bytes
+from independent.rows import ROW_BYTES, row_of
+from independent.tapes import Tape, begin_tape, tape_next, turned, turns
 
 PLACES = (0, 1, 3, 1_439, HIGHEST)
 ROOMS = (0, 1, 2, 7, 8, 3_456, 4_000)
@@ -56,7 +53,8 @@ def any_tapes(source):
 def turning_tapes(source):
     """A frame more at, one below and one over the most lines."""
     for walk, most in full_pieces():
-        number, place = source.random.choice(((0, 0), (0, 0), (3, 1), (12, 1_439)))
+        refusals = (judge.WRONG_LENGTH, 1), (judge.NOT_A_SAMPLE, 1_439)
+        number, place = source.random.choice((judge.ACCEPTED, judge.ACCEPTED, *refusals))
         tape = Tape(walk, most, number, place)
         yield protocol.TURNS, (tape,)
         yield protocol.TURNED, (tape,)
@@ -71,8 +69,9 @@ def ending_tapes(source):
             for lines_read, repairs in counts:
                 tape = Tape(Walk(system, line, lines_read, repairs), LINES_LIMIT, 0, 0)
                 yield protocol.TAPE_ENDS, (tape,)
-            yield protocol.TAPE_ENDS, (tape._replace(number=4),)
-            yield protocol.TAPE_ENDS, (Tape(Walk(system, line, 7, 0), 0, 12, 9),)
+            yield protocol.TAPE_ENDS, (tape._replace(number=judge.WRONG_COUNTS),)
+            refused = Tape(Walk(system, line, 7, 0), 0, judge.NOT_A_SAMPLE, 9)
+            yield protocol.TAPE_ENDS, (refused,)
             full = Tape(Walk(system, line, lines, 0), 2 * lines - 1, 0, 0)
             yield protocol.TURNS, (full,)
             yield protocol.TURNED, (full,)
@@ -83,7 +82,7 @@ def ended_tapes(source):
     for (system, line), number in product(chosen_lines(), EDGE_NUMBERS):
         walk, place = source.walk(system, line), source.random.choice(PLACES)
         tape = Tape(walk, source.random.choice(MOSTS), number, place)
-        size = calls.line_bytes(walk)
+        size = line_bytes(walk)
         for row in (row_of(source.picture()), source.junk_bytes(ROW_BYTES), b""):
             for room in (size, size - 1, 0):
                 yield protocol.TAPE_NEXT, (tape, row, source.junk_bytes(room))
@@ -97,7 +96,7 @@ def tapes_at_the_limit(source):
         for line, most in product(ends, (0, LINES_LIMIT, HIGHEST)):
             tape = Tape(Walk(system, line, lines_read, 0), most, *judge.ACCEPTED)
             yield from asked(tape)
-            row, room = row_of(source.picture()), calls.line_bytes(tape.walk)
+            row, room = row_of(source.picture()), line_bytes(tape.walk)
             yield protocol.TAPE_NEXT, (tape, row, source.junk_bytes(room))
 
 
@@ -105,14 +104,14 @@ def rows_on_tapes(source):
     """A row offered at each of some lines in turn, over the end of a frame and of a recording."""
     for system, before, frames in product(SYSTEMS, (0, 1, 5), (0, 1, 2)):
         lines = judge.SYSTEMS[system].lines
-        tape = calls.begin_tape(system, lines - before, frames * lines)
+        tape = begin_tape(system, lines - before, frames * lines)
         for _ in range(40):
             yield from asked(tape)
-            tape = calls.turned(tape) if calls.turns(tape) else tape
-            row, room = row_of(source.picture()), calls.line_bytes(tape.walk)
+            tape = turned(tape) if turns(tape) else tape
+            row, room = row_of(source.picture()), line_bytes(tape.walk)
             offered = tape, row, source.junk_bytes(room)
             yield protocol.TAPE_NEXT, offered
-            tape = calls.tape_next(*offered)[0]
+            tape = tape_next(*offered)[0]
 
 
 def told_counts(source):

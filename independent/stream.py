@@ -8,10 +8,11 @@ import os
 import sys
 from typing import NamedTuple
 
-from independent import judge
+from independent import judge, recordings
+from independent.judge import LINES_LIMIT
 from independent.material import Source, inverted
-from independent.protocol import pack_slice
-from independent.runs import clean_lines, header
+from independent.recordings import header
+from independent.runs import clean_lines
 
 
 class LongRun(NamedTuple):
@@ -24,12 +25,11 @@ class LongRun(NamedTuple):
     repaired: bool
 
 
-LIMIT = judge.LINES_LIMIT
 LIMIT_RUNS = (
-    LongRun(625, 1, LIMIT, 0, repaired=False),
-    LongRun(625, 1, LIMIT, 1, repaired=False),
-    LongRun(525, 300, LIMIT, 2 * judge.SYSTEMS[525].words, repaired=True),
-    LongRun(625, 600, LIMIT - 1, 1, repaired=False),
+    LongRun(625, 1, LINES_LIMIT, 0, repaired=False),
+    LongRun(625, 1, LINES_LIMIT, 1, repaired=False),
+    LongRun(525, 300, LINES_LIMIT, judge.line_size(525), repaired=True),
+    LongRun(625, 600, LINES_LIMIT - 1, 1, repaired=False),
 )
 
 
@@ -40,13 +40,13 @@ def frame(run):
     if run.repaired:
         masks = inverted(1)
         lines = [source.with_inversions(run.system, words, masks) for words in lines]
-    return b"".join(map(pack_slice, lines))
+    return b"".join(map(judge.bytes_of, lines))
 
 
 def last_bytes(run, whole):
     """What follows the last whole frame."""
     rest = run.lines % judge.SYSTEMS[run.system].lines
-    return whole[: rest * 2 * judge.SYSTEMS[run.system].words] + bytes(run.tail)
+    return whole[: rest * judge.line_size(run.system)] + bytes(run.tail)
 
 
 def pieces(run):
@@ -57,18 +57,17 @@ def pieces(run):
     yield last_bytes(run, whole)
 
 
-def expected_output(run):
-    """The output, as every frame does to the walk what the first one did."""
+def expected_outcome(run):
+    """The outcome, as every frame does to the walk what the first one did."""
     whole = frame(run)
-    fresh = judge.fresh(run.system, run.start)[2]
-    number, _, after = judge.confirm_lines(fresh, whole)
-    assert number == 0 and after.line == run.start
-    times = run.lines // after.lines_read - 1
-    before_last = judge.Walk(
-        run.system, run.start, times * after.lines_read, times * after.repairs
-    )
-    answer = judge.confirm_lines(before_last, whole + last_bytes(run, whole))
-    return judge.confirm_output(run.system, run.start, *answer)
+    begun = recordings.begin(header(run.system, run.start))
+    after = recordings.run_on(begun, whole)
+    assert after.number == 0 and after.walk.line == run.start
+    times = run.lines // after.walk.lines_read - 1
+    counts = {name: times * getattr(after.walk, name) for name in ("lines_read", "repairs")}
+    before_last = begun._replace(walk=begun.walk._replace(**counts))
+    run_out = recordings.run_on(before_last, whole + last_bytes(run, whole))
+    return recordings.outcome(run_out)
 
 
 def write_all(descriptor, data):

@@ -1,46 +1,48 @@
 -- The numbers and places of a line's refusals are small enough for one 32-bit answer. Assumes nothing.
-use Prim.Native.Nat.{ℕ, _*_, _/_, _<_}
-use mathlib.Core.Path.{_≡_, refl, sym, subst}
+use Prim.Native.Nat.{ℕ, _*_, _<_}
+use mathlib.Core.Path.{_≡_, refl}
 use mathlib.Core.List.{List}
 use mathlib.Core.Bool.{Bool, true, false, not, _||_}
 use native.Mathlib.Omega.{arith}
 use lib.Dec.{ltb, leb, eqb}
 use lib.ListN.{length, getD}
-use borrow.Author.Tests.{eqb-true}
+use borrow.Author.Tests.{eqb-true, eqb-false}
 use Rattle.refusal.specs.declared.Refusal.{Refusal}
+use Rattle.refusal.specs.Numbers.{numberBound, noSystem, noLine, wrongLength, badCounts, overTen, noCode, notDue, noFill, reserved}
 use Rattle.refusal.specs.Answer.{none, refuse, orElse, firstFrom}
 use Rattle.refusal.proofs.Cases.{by-cond, by-test}
-use Rattle.refusal.proofs.Firsts.{Found, nowhere, at, found, first-none, first-at, orElse-refused}
+use Rattle.refusal.proofs.Firsts.{Found, nowhere, at, found, first-none, first-at}
+use Rattle.words.specs.Words.{mostWord}
+use Rattle.words.specs.Bytes.{wordsOf}
+use Rattle.words.proofs.Bytes.{words-length}
 use Rattle.timing.specs.declared.Correction.{Correction}
 use Rattle.timing.specs.declared.Correction.the-variants.{Clean, Repaired, Refused}
+use Rattle.timing.specs.declared.Report.{Report}
 use Rattle.timing.specs.Code.{correctionOf}
 use Rattle.timing.specs.Report.{numberWhere, repairsOf}
-use Rattle.timing.proofs.Laws.{Bounded, bounded, one-repair}
-use Rattle.timing.specs.declared.Report.{Report}
-use Rattle.system.specs.declared.System.{System}
-use Rattle.system.specs.declared.Walk.{Walk}
-use Rattle.system.specs.Figures.{lineLength, isSystem, systemOf}
-use Rattle.system.specs.Walk.{mostLines, isLine, systemRefusal, lineRefusal, countRefusal, walkRefusal}
-use Rattle.system.proofs.Laws.{line-is-parts, sav-high}
-use Rattle.line.specs.declared.Due.{Due}
+use Rattle.timing.proofs.Laws.{Bounded, bounded}
+use Rattle.system.specs.declared.due.Due.{Due}
+use Rattle.system.specs.declared.walk.Walk.{Walk}
+use Rattle.system.specs.Figures.{isSystem, systemOf}
+use Rattle.system.specs.Walk.{mostLines, isLine, systemRefusal, numberRefusal, namedRefusal, walkRefusal, lineWords, lineBytes, standingRefusal, dueIn}
+use Rattle.system.proofs.Laws.{longest, at-most-two, accepted-stood}
 use Rattle.line.specs.declared.What.{What}
 use Rattle.line.specs.declared.What.the-variants.{Ones, Zeros, Fourth, Fill, Sample}
-use Rattle.line.specs.Due.{dueAt}
-use Rattle.line.specs.Fault.{leastSample, mostSample, wrongWhere, faultWhere, faultAt, wordRefusal}
-use Rattle.line.proofs.Tabs.{length-tab}
-use Rattle.reader.specs.Judge.{dueIn}
-use Rattle.lent.specs.Bytes.{wordOfBytes, wordsOf, bytesRefusal}
+use Rattle.line.specs.Offsets.{dueAt}
+use Rattle.line.specs.Fault.{leastSample, mostSample, leastOnes, mostZeros, wrongWhere, faultWhere, faultAt, wordRefusal}
+use Rattle.reader.proofs.Judged.{line-standing, line-words}
+use Rattle.bytewise.specs.Bytes.{bytesRefusal}
 
 -- a refusal that one answer can tell
 pub record Small (r : Refusal) : Type 0 where
-  pub number : r .number < 16
+  pub number : r .number < numberBound
   pub place : r .place < 65536
   pub accepted : r .number ≡ 0 → r .place ≡ 0
 
 small-none : Small none
 small-none = record { number = omega arith; place = omega arith; accepted = λ e. refl }
 
-small-refuse : (t : Bool) (n : ℕ) → n < 16 → (n ≡ 0 → ⊥) → Small (refuse t n 0)
+small-refuse : (t : Bool) (n : ℕ) → n < numberBound → (n ≡ 0 → ⊥) → Small (refuse t n 0)
 small-refuse true n low positive = record { number = low; place = omega arith; accepted = λ e. refl }
 small-refuse false n low positive = small-none
 
@@ -49,23 +51,23 @@ unfolding orElse
 small-orElse a b sa sb = by-cond Small (eqb (a .number) 0) b a (λ e. sb) (λ e. sa)
 
 -- the number at one offset
-number-where-low : (fvh : ℕ) (c : Correction) → Bounded c → numberWhere fvh c < 16
-number-where-low fvh (Clean k) b = by-cond (λ n. n < 16) (eqb k fvh) 0 9 (λ e. omega arith) (λ e. omega arith)
-number-where-low fvh (Repaired k bit) b = by-cond (λ n. n < 16) (eqb k fvh) 0 9 (λ e. omega arith) (λ e. omega arith)
+number-where-low : (fvh : ℕ) (c : Correction) → Bounded c → numberWhere fvh c < numberBound
+number-where-low fvh (Clean k) b = by-cond (λ n. n < numberBound) (eqb k fvh) 0 notDue (λ e. omega arith) (λ e. omega arith)
+number-where-low fvh (Repaired k bit) b = by-cond (λ n. n < numberBound) (eqb k fvh) 0 notDue (λ e. omega arith) (λ e. omega arith)
 number-where-low fvh (Refused n) b = b
 
-wrong-low : (due : What) (w : ℕ) → wrongWhere due w < 16
-wrong-low Ones w = by-cond (λ n. n < 16) (ltb w 1020) 6 0 (λ e. omega arith) (λ e. omega arith)
-wrong-low Zeros w = by-cond (λ n. n < 16) (ltb 3 w) 6 0 (λ e. omega arith) (λ e. omega arith)
+wrong-low : (due : What) (w : ℕ) → wrongWhere due w < numberBound
+wrong-low Ones w = by-cond (λ n. n < numberBound) (ltb w leastOnes) noCode 0 (λ e. omega arith) (λ e. omega arith)
+wrong-low Zeros w = by-cond (λ n. n < numberBound) (ltb mostZeros w) noCode 0 (λ e. omega arith) (λ e. omega arith)
 wrong-low (Fourth fvh) w = number-where-low fvh (correctionOf w) (bounded w)
-wrong-low (Fill word) w = by-cond (λ n. n < 16) (eqb w word) 0 10 (λ e. omega arith) (λ e. omega arith)
-wrong-low Sample w = by-cond (λ n. n < 16) (ltb w leastSample || ltb mostSample w) 11 0 (λ e. omega arith) (λ e. omega arith)
+wrong-low (Fill word) w = by-cond (λ n. n < numberBound) (eqb w word) 0 noFill (λ e. omega arith) (λ e. omega arith)
+wrong-low Sample w = by-cond (λ n. n < numberBound) (ltb w leastSample || ltb mostSample w) reserved 0 (λ e. omega arith) (λ e. omega arith)
 
-fault-low : (d : Due) (words : List ℕ) (i : ℕ) → faultAt d words i < 16
+fault-low : (d : Due) (words : List ℕ) (i : ℕ) → faultAt d words i < numberBound
 unfolding faultAt faultWhere
 fault-low d words i =
     let w : ℕ = getD words i 0 in
-    by-cond (λ n. n < 16) (ltb 1023 w) 5 (wrongWhere (dueAt d i) w) (λ e. omega arith) (λ e. wrong-low (dueAt d i) w)
+    by-cond (λ n. n < numberBound) (ltb mostWord w) overTen (wrongWhere (dueAt d i) w) (λ e. omega arith) (λ e. wrong-low (dueAt d i) w)
 
 small-words : (d : Due) (words : List ℕ) → length words < 65536 → Small (wordRefusal d words)
 unfolding wordRefusal
@@ -78,29 +80,26 @@ small-words d words l = go (found (faultAt d words) (length words))
         (record { number = fault-low d words p; place = omega arith; accepted = λ e. absurd (b e) })
 
 small-walk : (w : Walk) → Small (walkRefusal w)
-unfolding walkRefusal
+unfolding walkRefusal namedRefusal
 small-walk w =
-    small-orElse (systemRefusal (w .system)) _ (small-refuse (not (isSystem (w .system))) 1 (omega arith) (λ z. omega arith))
-    (small-orElse (lineRefusal (w .system) (w .line)) _ (small-refuse (not (isLine (w .system) (w .line))) 2 (omega arith) (λ z. omega arith))
-    (small-orElse (countRefusal (w .lines) (w .repairs)) none (small-refuse (leb mostLines (w .lines) || ltb (2 * w .lines) (w .repairs)) 4 (omega arith) (λ z. omega arith)) small-none))
-
-line-short : (s : System) → lineLength s < 65536
-line-short s = omega (arith, line-is-parts s, sav-high s)
+    small-orElse (namedRefusal (w .system) (w .line)) _
+    (small-orElse (systemRefusal (w .system)) _ (small-refuse (not (isSystem (w .system))) noSystem (omega arith) (λ z. omega arith))
+    (small-orElse (numberRefusal (w .system) (w .line)) none (small-refuse (not (isLine (w .system) (w .line))) noLine (omega arith) (λ z. omega arith)) small-none))
+    (small-refuse (leb mostLines (w .lines) || ltb (2 * w .lines) (w .repairs)) badCounts (omega arith) (λ z. omega arith))
 
 pub small-bytes : (w : Walk) (bytes : List ℕ) → Small (bytesRefusal w bytes)
-unfolding bytesRefusal wordsOf
 small-bytes w bytes =
-    small-orElse (walkRefusal w) _ (small-walk w)
-    (by-test (eqb (length bytes) (2 * lineLength (systemOf (w .system))))
+    let standing = standingRefusal w (length bytes) (lineBytes w) in
+    by-test (eqb (standing .number) 0)
     (λ t.
-    let size = eqb-true (length bytes) (2 * lineLength (systemOf (w .system))) t in
-    let short : length (wordsOf bytes) < 65536 =
-    omega (arith, length-tab (λ k. wordOfBytes bytes (2 * k)) (length bytes / 2), line-short (systemOf (w .system))) in
-    small-orElse _ _ (small-refuse (not (eqb (length bytes) (2 * lineLength (systemOf (w .system))))) 3 (omega arith) (λ z. omega arith))
-    (small-orElse (wordRefusal (dueIn w (wordsOf bytes)) (wordsOf bytes)) none (small-words (dueIn w (wordsOf bytes)) (wordsOf bytes) short) small-none))
-    (λ f. rw f (subst Small (sym (orElse-refused (record { number = 3; place = 0 }) _ (λ z. omega arith)))
-    (record { number = omega arith; place = omega arith; accepted = λ e. refl }))))
+    let z = eqb-true _ _ t in
+    let size = accepted-stood w (length bytes) (lineBytes w) z .size in
+    let short : length (wordsOf bytes) < 65536 = omega (arith, words-length bytes (lineWords w) size, longest (systemOf (w .system))) in
+    rw (line-words (length bytes) (lineBytes w) none w (wordsOf bytes) z refl) (small-words (dueIn w (wordsOf bytes)) (wordsOf bytes) short))
+    (λ f.
+    rw (line-standing (length bytes) (lineBytes w) none w (wordsOf bytes) (eqb-false _ _ f))
+    (small-orElse (walkRefusal w) _ (small-walk w) (small-refuse (not (eqb (length bytes) (lineBytes w))) wrongLength (omega arith) (λ z. omega arith))))
 
 -- an accepted line's repairs are
 pub repairs-low : (r : Report) → repairsOf r < 65536
-repairs-low r = omega (arith, one-repair (r .eav), one-repair (r .sav))
+repairs-low r = omega (arith, at-most-two r)

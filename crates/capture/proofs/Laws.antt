@@ -1,20 +1,21 @@
--- What is answered for each kind of correction, and within which bounds. Assumes nothing.
+-- What is inOneNumber for each kind of correction, and within which bounds. Assumes nothing.
 use Prim.Native.Nat.{ℕ, _+_, _*_, _<_}
 use mathlib.Core.Path.{_≡_, ap, subst, _∙_}
 use native.Mathlib.Omega.{arith}
 use lib.Dec.{eqb}
-use borrow.Author.Tests.{eq-eqb, ne-eqb, eqb-true, eqb-false}
+use borrow.Author.Tests.{eqb-true}
+use Rattle.refusal.specs.Numbers.{numberBound}
 use Rattle.refusal.proofs.Cases.{by-test}
 use Rattle.timing.specs.declared.Correction.{Correction}
 use Rattle.timing.specs.declared.Correction.the-variants.{Clean, Repaired, Refused}
 use Rattle.timing.specs.Code.{fourthOf, correctionOf}
 use Rattle.timing.specs.Refusals.{refusalOf}
 use Rattle.timing.proofs.Laws.{Bounded, bounded}
-use Rattle.capture.specs.Answer.{answered, correctedOf, correctAnswer}
+use Rattle.capture.specs.Answer.{inOneNumber, correctedOf, correctAnswer}
 
 -- the answer to a correction
 abbrev answerTo : Correction → ℕ
-answerTo c = answered (refusalOf c) (correctedOf c)
+answerTo c = inOneNumber (refusalOf c) (correctedOf c)
 
 module _ (word : ℕ) where
   pub clean-answer : (fvh : ℕ) → correctionOf word ≡ Clean fvh → correctAnswer word ≡ fourthOf fvh
@@ -37,5 +38,5 @@ module _ (word : ℕ) where
   pub bit-low : (fvh bit : ℕ) → correctionOf word ≡ Repaired fvh bit → bit < 9
   bit-low fvh bit e = subst Bounded e (bounded word) .1
 
-  pub number-low : (number : ℕ) → correctionOf word ≡ (Refused number) → number < 16
+  pub number-low : (number : ℕ) → correctionOf word ≡ (Refused number) → number < numberBound
   number-low number e = subst Bounded e (bounded word)

@@ -1,6 +1,6 @@
 -- The promises on the calls from C, of the definitions that their contracts cite. Assumes nothing.
 use Prim.Native.Nat.{ℕ, _+_, _*_, _/_, _%_, _<_, _≤_}
-use mathlib.Core.Path.{_≡_, refl, sym, ap, subst, _∙_}
+use mathlib.Core.Path.{_≡_, refl, sym, subst, _∙_}
 use mathlib.Core.Bool.{cond}
 use mathlib.Core.List.{List}
 use native.Mathlib.Omega.{arith}
@@ -11,21 +11,21 @@ use Rattle.refusal.specs.Table.{Keeps}
 use Rattle.refusal.proofs.Cases.{by-test}
 use Rattle.timing.specs.declared.Correction.{Correction}
 use Rattle.timing.specs.declared.Correction.the-variants.{Clean, Repaired, Refused}
-use Rattle.timing.specs.Code.{fourthOf, correctionOf}
+use Rattle.timing.specs.Code.{correctionOf}
 use Rattle.timing.specs.Refusals.{correctionRefusals, refusalOf}
 use Rattle.timing.proofs.Laws.{Bounded, bounded, fourth-below, one-repair}
 use Rattle.timing.proofs.Theorems.{correction-exact}
 use Rattle.timing.specs.Report.{repairsOf}
-use Rattle.system.specs.declared.Walk.{Walk}
-use Rattle.lent.specs.Bytes.{judgedBytes}
-use Rattle.lent.specs.Refusals.{bytesRefusals}
-use Rattle.lent.proofs.Theorems.{bytes-exact, bytes-number}
-use Rattle.capture.specs.Answer.{answered, correctedOf, correctAnswer, judgeAnswer, toldBy}
+use Rattle.system.specs.declared.walk.Walk.{Walk}
+use Rattle.bytewise.specs.Bytes.{judgedBytes}
+use Rattle.bytewise.specs.Refusals.{bytesRefusals}
+use Rattle.bytewise.proofs.Theorems.{bytes-exact, bytes-number}
+use Rattle.capture.specs.Answer.{inOneNumber, correctedOf, correctAnswer, judgeAnswer, toldBy}
 use Rattle.capture.proofs.Bounds.{Small, small-bytes, repairs-low}
 
 -- An answer below 65,536 is no refusal, and any other tells the refusal's number and place.
 pub answer-tells : (r : Refusal) (accepted : ℕ) → accepted < 65536 → r .place < 65536 → (r .number ≡ 0 → r .place ≡ 0)
-    → r ≡ record { number = answered r accepted / 65536; place = cond (eqb (answered r accepted / 65536) 0) 0 (answered r accepted % 65536) }
+    → r ≡ record { number = inOneNumber r accepted / 65536; place = cond (eqb (inOneNumber r accepted / 65536) 0) 0 (inOneNumber r accepted % 65536) }
 answer-tells r accepted low near zero =
     by-test (eqb (r .number) 0)
     (λ t.

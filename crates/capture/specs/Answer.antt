@@ -9,12 +9,12 @@ use Rattle.timing.specs.declared.Correction.the-variants.{Clean, Repaired, Refu
 use Rattle.timing.specs.Code.{fourthOf, correctionOf}
 use Rattle.timing.specs.Refusals.{refusalOf}
 use Rattle.timing.specs.Report.{repairsOf}
-use Rattle.system.specs.declared.Walk.{Walk}
-use Rattle.lent.specs.Bytes.{judgedBytes}
+use Rattle.system.specs.declared.walk.Walk.{Walk}
+use Rattle.bytewise.specs.Bytes.{judgedBytes}
 
 -- "Each answers one 32-bit number: a refusal's number times 65,536 plus its place."
-abbrev pub answered : Refusal → ℕ → ℕ
-answered r accepted = cond (eqb (r .number) 0) accepted (r .number * 65536 + r .place)
+abbrev pub inOneNumber : Refusal → ℕ → ℕ
+inOneNumber r accepted = cond (eqb (r .number) 0) accepted (r .number * 65536 + r .place)
 
 -- "otherwise it answers the corrected word with both low bits 0, plus 4,096 times the repaired bit's number, or plus nothing if clean"
 abbrev pub correctedOf : Correction → ℕ
@@ -24,12 +24,12 @@ correctedOf (Refused number) = 0
 
 -- the answer to any number: over 1023 is 5, however large it is
 unfoldable pub correctAnswer : ℕ → ℕ
-correctAnswer word = answered (refusalOf (correctionOf word)) (correctedOf (correctionOf word))
+correctAnswer word = inOneNumber (refusalOf (correctionOf word)) (correctedOf (correctionOf word))
 
 -- the byte judge: "an accepted line answers its repairs, 0 to 2"
 unfoldable pub judgeAnswer : Walk → List ℕ → ℕ
 judgeAnswer w bytes =
-    answered (record { number = judgedBytes w bytes .number; place = judgedBytes w bytes .place }) (repairsOf (judgedBytes w bytes .report))
+    inOneNumber (record { number = judgedBytes w bytes .number; place = judgedBytes w bytes .place }) (repairsOf (judgedBytes w bytes .report))
 
 -- the refusal that an answer tells: below 65,536 it is none
 abbrev pub toldBy : ℕ → Refusal

@@ -1,8 +1,10 @@
 // What the capture process calls from C: include/fiskrogn.h tells it to a C programmer.
 ghost use mathlib.Core.Path.{_≡_};
 ghost use Rattle.capture.specs.Answer.{correctAnswer, judgeAnswer};
+use refusal::Number;
 use system::Walk;
 use timing::Correction;
+use words::MOST_WORD;
 
 // The correction of a fourth word as one number: the corrected word and 4,096 times the repaired bit, or 65,536 times the refusal's
 // number. Any 32-bit number may come: nothing is cut before it is judged.
@@ -10,8 +12,8 @@ use timing::Correction;
 pub extern "C" fn fiskrogn_correct(word: u32) -> u32
     ensures { λ r. ⌜ r ≡ correctAnswer word ⌝ }
 {
-    if 1023 < word {
-        return 5 * 65536;
+    if (MOST_WORD as u32) < word {
+        return 65536 * Number::OVER;
     }
     let correction = timing::correct(word as u16);
     match correction {
@@ -33,13 +35,8 @@ pub extern "C" fn fiskrogn_judge(
 ) -> u32
     ensures { λ r. ⌜ r ≡ judgeAnswer (record { system = system; line = line; lines = «lines_read»; repairs = repairs }) (now (bytes .entry)) ⌝ }
 {
-    let walk = Walk {
-        system,
-        line,
-        lines: lines_read,
-        repairs,
-    };
-    let judgement = lent::judge(walk, bytes);
+    let walk = Walk::of(system, line, lines_read, repairs);
+    let judgement = bytewise::judge(walk, bytes);
     if judgement.number != 0 {
         return 65536 * judgement.number + judgement.place as u32;
     }

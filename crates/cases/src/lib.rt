@@ -1,22 +1,20 @@
 // What the cases of the tests bring and what their answers give: numbers and records first, then slices, all low byte first.
 mod answer;
+mod numbers;
 mod payload;
 
 pub use answer::put_bytes;
-pub use answer::put_code_report;
-pub use answer::put_judgement;
-pub use answer::put_number;
-pub use answer::put_place;
-pub use answer::put_refusal;
-pub use answer::put_truth;
-pub use answer::put_walk;
-pub use answer::put_wide;
+pub use answer::put_numbers;
 pub use answer::put_words;
+pub use numbers::Numbers;
+pub use payload::after_bytes;
+pub use payload::after_words;
 pub use payload::count;
 pub use payload::number;
+pub use payload::part;
 pub use payload::report;
-pub use payload::take_bytes;
-pub use payload::take_words;
+pub use payload::taken_bytes;
+pub use payload::taken_words;
 pub use payload::walk;
 pub use payload::wide;
 

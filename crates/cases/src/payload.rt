@@ -52,12 +52,12 @@ fn next(payload: &[u8], at: usize, numbers: u8) -> u32 {
 
 // The walk that four numbers tell.
 pub fn walk(payload: &[u8], at: usize) -> Walk {
-    Walk {
-        system: number(payload, at),
-        line: next(payload, at, 1),
-        lines: next(payload, at, 2),
-        repairs: next(payload, at, 3),
-    }
+    Walk::of(
+        number(payload, at),
+        next(payload, at, 1),
+        next(payload, at, 2),
+        next(payload, at, 3),
+    )
 }
 
 // A code's report, from whether it was repaired, 1, and the bit.
@@ -76,30 +76,112 @@ pub fn report(payload: &[u8], at: usize) -> Report {
     }
 }
 
-// Takes a slice of words from an offset on, and tells the offset after it: past the end where the payload is too short.
-pub fn take_words(payload: &[u8], at: usize, words: &mut [u16]) -> usize {
-    if payload.len() < at {
-        return at;
+// The byte at an offset: 0 past the end.
+fn byte(payload: &[u8], at: usize) -> u8 {
+    if payload.len() <= at {
+        return 0;
     }
-    if (payload.len() - at) / 2 < words.len() {
+    payload[at]
+}
+
+// The offset behind a byte: one past the end stays there.
+fn behind(payload: &[u8], at: usize) -> usize {
+    if payload.len() <= at {
         return payload.len() + 1;
     }
+    at + 1
+}
+
+// Takes a slice of words from an offset on, and tells the offset after it: past the end where the payload is too short.
+fn take_words(payload: &[u8], at: usize, words: &mut [u16]) -> usize {
+    let mut next = at;
     for k in 0..words.len() {
-        words[k] = pair(payload[at + 2 * k], payload[at + 2 * k + 1]);
+        let high = behind(payload, next);
+        words[k] = pair(byte(payload, next), byte(payload, high));
+        next = behind(payload, high);
     }
-    at + 2 * words.len()
+    next
 }
 
 // Takes a slice of bytes in the same way.
-pub fn take_bytes(payload: &[u8], at: usize, bytes: &mut [u8]) -> usize {
-    if payload.len() < at {
-        return at;
+fn take_bytes(payload: &[u8], at: usize, bytes: &mut [u8]) -> usize {
+    let mut next = at;
+    for k in 0..bytes.len() {
+        bytes[k] = byte(payload, next);
+        next = behind(payload, next);
     }
-    if payload.len() - at < bytes.len() {
+    next
+}
+
+// The offset behind a slice of words whose count stands at another: past the end where there are more than the most.
+pub fn after_words(payload: &[u8], most: usize, at_count: usize, at: usize) -> usize {
+    let word_count = count(payload, at_count);
+    if most < word_count {
         return payload.len() + 1;
     }
-    for k in 0..bytes.len() {
-        bytes[k] = payload[at + k];
+    wrapping_add_usize(at, wrapping_add_usize(word_count, word_count))
+}
+
+// The same of bytes.
+pub fn after_bytes(payload: &[u8], most: usize, at_count: usize, at: usize) -> usize {
+    let byte_count = count(payload, at_count);
+    if most < byte_count {
+        return payload.len() + 1;
     }
-    at + bytes.len()
+    wrapping_add_usize(at, byte_count)
+}
+
+// The bytes from one offset to another: none where the payload does not have them.
+pub fn part(payload: &[u8], from: usize, to: usize) -> &[u8] {
+    if payload.len() < to {
+        return &payload[0..0];
+    }
+    if to < from {
+        return &payload[0..0];
+    }
+    &payload[from..to]
+}
+
+fn first_words(words: &mut [u16], word_count: usize) -> &mut [u16] {
+    if words.len() < word_count {
+        return &mut words[0..0];
+    }
+    &mut words[0..word_count]
+}
+
+fn first_bytes(bytes: &mut [u8], byte_count: usize) -> &mut [u8] {
+    if bytes.len() < byte_count {
+        return &mut bytes[0..0];
+    }
+    &mut bytes[0..byte_count]
+}
+
+fn filled_words<'a>(payload: &[u8], at: usize, words: &'a mut [u16]) -> &'a mut [u16] {
+    take_words(payload, at, words);
+    words
+}
+
+fn filled_bytes<'a>(payload: &[u8], at: usize, bytes: &'a mut [u8]) -> &'a mut [u8] {
+    take_bytes(payload, at, bytes);
+    bytes
+}
+
+// The slice of words at an offset, of which there are as many as stand at another, by way of room for them.
+pub fn taken_words<'a>(
+    payload: &[u8],
+    at_count: usize,
+    at: usize,
+    room: &'a mut [u16],
+) -> &'a mut [u16] {
+    filled_words(payload, at, first_words(room, count(payload, at_count)))
+}
+
+// The same of bytes.
+pub fn taken_bytes<'a>(
+    payload: &[u8],
+    at_count: usize,
+    at: usize,
+    room: &'a mut [u8],
+) -> &'a mut [u8] {
+    filled_bytes(payload, at, first_bytes(room, count(payload, at_count)))
 }

@@ -17,9 +17,6 @@ const LINES_HELD: usize = 48;
 // Room for so many of the longer lines, two bytes a word.
 const ROOM: usize = LINES_HELD * 2 * system::System625::LINE_LENGTH;
 
-// How many reads pass between two reports of progress.
-const READS_A_REPORT: u64 = 4096;
-
 // A run, where the bytes at..have of the buffer are read and not taken yet; whether reading is done, and whether a failed read ended it.
 struct Ready {
     run: Run,
@@ -103,8 +100,7 @@ fn turn(input: i32, run: Run, at: usize, have: usize, buffer: &mut [u8]) -> Read
     counted(run, at, have, got, buffer)
 }
 
-// Follows the run to the end of the input or its first refusal. A proved loop has to end, and nothing says that the input does: the
-// turns count down from a number that no run uses up.
+// Follows the run to the end of the input or its first refusal.
 fn follow(input: i32, run: Run, buffer: &mut [u8], is_shown: bool) -> Ready {
     let mut ready = Ready {
         run,
@@ -114,13 +110,11 @@ fn follow(input: i32, run: Run, buffer: &mut [u8], is_shown: bool) -> Ready {
         failed: false,
     };
     let mut turns = u64::MAX;
-    while turns > 0 && !ready.done {
+    while turns > 0 {
         ready = turn(input, ready.run, ready.at, ready.have, buffer);
-        turns -= 1;
-        if is_shown && turns % READS_A_REPORT == 0 {
-            let next = ready.run;
-            console::show(next.walk);
-        }
+        turns = console::turns_left(turns, ready.done);
+        let next = ready.run;
+        console::show_turn(is_shown, turns, next.walk);
     }
     ready
 }
@@ -143,12 +137,11 @@ fn come_to(ready: Ready) -> Read
 fn confirm_by(input: i32, run: Run, buffer: &mut [u8]) -> Read
     requires { ⌜ 96 * lineLength Lines625 ≤ length (now buffer) ⌝ }
 {
-    let size = LINES_HELD * confirmation::line_bytes(run.walk);
+    let walk = run.walk;
+    let size = LINES_HELD * walk.line_bytes();
     let is_shown = console::is_shown();
     let reached = follow(input, run, &mut buffer[0..size], is_shown);
-    if is_shown {
-        console::end_show();
-    }
+    console::end_turns(is_shown);
     come_to(reached)
 }
 

@@ -9,12 +9,12 @@ use lib.Seq.{take-all}
 use borrow.Author.Tests.{eq-eqb, ne-eqb}
 use Rattle.intake.specs.Arrival.{pieces}
 use Rattle.intake.proofs.Pieces.{pieces-enough}
-use Rattle.system.specs.declared.Walk.{Walk}
+use Rattle.system.specs.declared.walk.Walk.{Walk}
 use Rattle.system.specs.Figures.{systemOf}
-use Rattle.system.specs.Walk.{walkRefusal}
+use Rattle.system.specs.Walk.{walkRefusal, lineBytes}
 use Rattle.system.proofs.Laws.{line-is-parts}
 use Rattle.confirmation.specs.declared.Run.{Run}
-use Rattle.confirmation.specs.Run.{lineBytes, judgedNext, through, bodyOf}
+use Rattle.confirmation.specs.Run.{judgedNext, through, bodyOf}
 use Rattle.confirmation.proofs.Nexts.{endedWith, next-refused, next-line-bytes}
 
 pub line-has-bytes : (w : Walk) → 1 ≤ lineBytes w

@@ -10,16 +10,17 @@ use Rattle.refusal.specs.declared.Refusal.{Refusal}
 use Rattle.refusal.specs.Answer.{none}
 use Rattle.refusal.specs.Table.{Row, _before_, Decides, Keeps}
 use Rattle.refusal.proofs.Cases.{by-test}
-use Rattle.refusal.proofs.Firsts.{orElse-accepted}
-use Rattle.refusal.proofs.Tables.{keeps-before, decides-before}
+use Rattle.refusal.proofs.Firsts.{orElse-accepted, same-number}
+use Rattle.refusal.proofs.Tables.{keeps-none, keeps-before, decides-before}
 use Rattle.intake.specs.Arrival.{allPieces}
-use Rattle.system.specs.Refusals.{freshRefusals}
-use Rattle.system.proofs.Theorems.{fresh-decides}
-use Rattle.lent.specs.Bytes.{bytesRefusal}
-use Rattle.lent.specs.Refusals.{bytesRefusals}
-use Rattle.lent.proofs.Theorems.{bytes-exact, bytes-number, bytes-decide}
+use Rattle.system.specs.Refusals.{namedRefusals}
+use Rattle.system.proofs.Theorems.{named-decides}
+use Rattle.bytewise.specs.Bytes.{bytesRefusal}
+use Rattle.bytewise.specs.Refusals.{bytesRefusals}
+use Rattle.bytewise.proofs.Theorems.{bytes-exact, bytes-number, bytes-decide}
 use Rattle.confirmation.specs.declared.Run.{Run}
-use Rattle.confirmation.specs.Run.{headerLength, headerSystem, headerStart, begunOf, lineBytes, judgedNext, through, bodyOf, confirmedOf}
+use Rattle.confirmation.specs.Run.{headerLength, headerSystem, headerStart, begunOf, judgedNext, through, bodyOf, confirmedOf}
+use Rattle.system.specs.Walk.{lineBytes}
 use Rattle.confirmation.specs.Refusals.{runRefusals, confirmRefusals}
 use Rattle.confirmation.proofs.Bodies.{through-ended}
 use Rattle.confirmation.proofs.Theorems.{begin-exact}
@@ -28,17 +29,13 @@ use Rattle.confirmation.proofs.Theorems.{begin-exact}
 abbrev pub refusalOf : Run → Refusal
 refusalOf r = record { number = r .number; place = r .place }
 
--- an answer that keeps to a table and accepts is none
-accepts-none : (table : Row) (r : Refusal) → Keeps table r → r .number ≡ 0 → r ≡ none
-accepts-none table r kept z = ⊎-elim (λ k. absurd (k .1 z)) (λ k. k .1) kept
-
 -- the first of two tables speaks, or it is silent and the second is kept to
 first-or-rest : (a b : Row) (x y : Refusal) → Keeps a x → (x .number ≡ 0 → Keeps b y) → ((x .number ≡ 0 → ⊥) → y ≡ x) → Keeps (a before b) y
 first-or-rest a b x y kept rest same =
     by-test (eqb (x .number) 0)
     (λ t. let z = eqb-true _ _ t in subst (Keeps (a before b)) (orElse-accepted x y z) (keeps-before a b x y kept (rest z)))
     (λ f. let n = eqb-false _ _ f in
-    subst (Keeps (a before b)) (sym (same n)) (⊎-elim (λ k. inl (inl (k .0), k .1)) (λ k. absurd (n (ap (λ (r : Refusal). r .number) (k .1)))) kept))
+    subst (Keeps (a before b)) (sym (same n)) (⊎-elim (λ k. inl (inl (k .0), k .1)) (λ k. absurd (n (same-number (k .1)))) kept))
 
 next-refusal : (r : Run) (piece : List ℕ) → refusalOf (judgedNext r piece) ≡ bytesRefusal (r .walk) piece
 unfolding judgedNext
@@ -50,11 +47,11 @@ through-exact [] r e = inr (λ s asked. asked, e)
 through-exact (piece ∷ ps) r e =
     let after = judgedNext r piece in
     let refusal = bytesRefusal (r .walk) piece in
-    let opened : through r (piece ∷ ps) ≡ through after ps = simp (eq-eqb _ _ (ap (λ (x : Refusal). x .number) e)) in
+    let opened : through r (piece ∷ ps) ≡ through after ps = simp (eq-eqb _ _ (same-number e)) in
     subst (Keeps (runRefusals r (piece ∷ ps))) (ap refusalOf (sym opened))
     (first-or-rest (bytesRefusals (r .walk) piece) (runRefusals after ps) refusal (refusalOf (through after ps)) (bytes-exact (r .walk) piece)
-    (λ z. through-exact ps after (next-refusal r piece ∙ accepts-none _ refusal (bytes-exact (r .walk) piece) z))
-    (λ n. ap refusalOf (through-ended after ps (λ z. n (sym (ap (λ (x : Refusal). x .number) (next-refusal r piece)) ∙ z))) ∙ next-refusal r piece))
+    (λ z. through-exact ps after (next-refusal r piece ∙ keeps-none _ refusal (bytes-exact (r .walk) piece) z))
+    (λ n. ap refusalOf (through-ended after ps (λ z. n (sym (same-number (next-refusal r piece)) ∙ z))) ∙ next-refusal r piece))
 
 runs-decide : (ps : List (List ℕ)) (r : Run) → Decides (runRefusals r ps)
 runs-decide [] r = λ a b x y. absurd x
@@ -67,11 +64,11 @@ confirm-exact bytes =
     let r = begunOf bytes in
     let body = drop headerLength bytes in
     let ps = allPieces (lineBytes (r .walk)) body in
-    first-or-rest (freshRefusals (headerSystem bytes) (headerStart bytes)) (runRefusals r ps) (refusalOf r) (refusalOf (through r ps)) (begin-exact bytes)
-    (λ z. through-exact ps r (accepts-none _ (refusalOf r) (begin-exact bytes) z))
+    first-or-rest (namedRefusals (headerSystem bytes) (headerStart bytes)) (runRefusals r ps) (refusalOf r) (refusalOf (through r ps)) (begin-exact bytes)
+    (λ z. through-exact ps r (keeps-none _ (refusalOf r) (begin-exact bytes) z))
     (λ n. ap refusalOf (through-ended r ps n))
 
 -- .. and the table leaves one answer.
 pub confirm-decides : (bytes : List ℕ) → Decides (confirmRefusals bytes)
 confirm-decides bytes =
-    decides-before _ _ (fresh-decides (headerSystem bytes) (headerStart bytes)) (runs-decide (allPieces (lineBytes (begunOf bytes .walk)) (drop headerLength bytes)) (begunOf bytes))
+    decides-before _ _ (named-decides (headerSystem bytes) (headerStart bytes)) (runs-decide (allPieces (lineBytes (begunOf bytes .walk)) (drop headerLength bytes)) (begunOf bytes))

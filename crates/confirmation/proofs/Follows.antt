@@ -10,10 +10,10 @@ use lib.Seq.{take-append-le, drop-append-le, drop-drop}
 use lib.Dec.{ltb, eqb}
 use borrow.Author.Tests.{eq-eqb, ne-eqb, eqb-true, eqb-false, ltb-true, ltb-false, lt-ltb, le-ltb}
 use Rattle.refusal.proofs.Cases.{by-test, or-left, or-right}
-use Rattle.system.specs.Walk.{walkRefusal}
+use Rattle.system.specs.Walk.{walkRefusal, lineBytes}
 use Rattle.confirmation.specs.declared.Run.{Run}
 use Rattle.confirmation.specs.declared.Followed.{Followed}
-use Rattle.confirmation.specs.Run.{lineBytes, judgedNext, bodyOf}
+use Rattle.confirmation.specs.Run.{judgedNext, bodyOf}
 use Rattle.confirmation.specs.Follow.{waits, followFrom, closedOf}
 use Rattle.confirmation.proofs.Nexts.{next-refused}
 use Rattle.confirmation.proofs.Bodies.{line-has-bytes, body-ended, body-none, body-next, body-barred, body-last}

@@ -7,14 +7,16 @@ use lib.Dec.{eqb}
 use Rattle.refusal.specs.declared.Refusal.{Refusal}
 use Rattle.refusal.proofs.Cases.{by-cond}
 use Rattle.timing.specs.declared.Report.{Report}
-use Rattle.system.specs.declared.Walk.{Walk}
-use Rattle.system.specs.Walk.{walkRefusal, advancedOf}
-use Rattle.reader.specs.declared.Judgement.{Judgement}
-use Rattle.reader.specs.Judge.{judgementOf, refusedAt, acceptedAt}
-use Rattle.lent.specs.Bytes.{bytesRefusal, judgedBytes}
-use Rattle.lent.proofs.Judged.{judged-walk}
+use Rattle.system.specs.declared.walk.Walk.{Walk}
+use Rattle.system.specs.Walk.{walkRefusal, advancedOf, lineBytes}
+use Rattle.system.specs.declared.walk.Judgement.{Judgement}
+use Rattle.system.specs.Judgement.{judgementOf, refusedAt, acceptedAt}
+use Rattle.system.specs.declared.due.Due.{Due}
+use Rattle.reader.specs.Judge.{lineJudged}
+use Rattle.bytewise.specs.Bytes.{bytesRefusal}
+use Rattle.bytewise.proofs.Judged.{judged-walk}
 use Rattle.confirmation.specs.declared.Run.{Run}
-use Rattle.confirmation.specs.Run.{judgedNext, lineBytes}
+use Rattle.confirmation.specs.Run.{judgedNext}
 
 -- a run that ended with a refusal, its walk standing
 abbrev pub endedWith : Run → Refusal → Run
@@ -22,10 +24,10 @@ endedWith r refusal =
     record { system = r .system; start = r .start; walk = r .walk; number = refusal .number; place = refusal .place }
 
 -- the walk after a judgement is one of the same system
-judgement-system : (r : Refusal) (w : Walk) (report : Report) → judgementOf r w report .walk .system ≡ w .system
+judgement-system : (r : Refusal) (w : Walk) (d : Due) (report : Report) → judgementOf r w d report .walk .system ≡ w .system
 unfolding judgementOf advancedOf
-judgement-system r w report =
-    by-cond (λ (j : Judgement). j .walk .system ≡ w .system) (eqb (r .number) 0) (acceptedAt w report) (refusedAt w r)
+judgement-system r w d report =
+    by-cond (λ (j : Judgement). j .walk .system ≡ w .system) (eqb (r .number) 0) (acceptedAt w d report) (refusedAt w r)
     (λ e. refl) (λ e. refl)
 
 pub next-refused : (r : Run) (bytes : List ℕ) → (walkRefusal (r .walk) .number ≡ 0 → ⊥)
@@ -34,8 +36,8 @@ unfolding judgedNext
 next-refused r bytes n = rw (judged-walk (r .walk) bytes n)
 
 pub next-system : (r : Run) (bytes : List ℕ) → judgedNext r bytes .walk .system ≡ r .walk .system
-unfolding judgedNext judgedBytes
-next-system r bytes = judgement-system (bytesRefusal (r .walk) bytes) (r .walk) _
+unfolding judgedNext lineJudged
+next-system r bytes = judgement-system (bytesRefusal (r .walk) bytes) (r .walk) _ _
 
 pub next-line-bytes : (r : Run) (bytes : List ℕ) → lineBytes (judgedNext r bytes .walk) ≡ lineBytes (r .walk)
 next-line-bytes r bytes = rw (next-system r bytes)

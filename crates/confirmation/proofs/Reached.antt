@@ -7,9 +7,10 @@ use native.Mathlib.Omega.{arith}
 use lib.ListN.{length, take, drop, length-drop}
 use lib.Seq.{drop-drop}
 use Rattle.refusal.specs.declared.Refusal.{Refusal}
-use Rattle.system.specs.Walk.{walkRefusal}
+use Rattle.refusal.proofs.Firsts.{same-number}
+use Rattle.system.specs.Walk.{walkRefusal, lineBytes}
 use Rattle.confirmation.specs.declared.Run.{Run}
-use Rattle.confirmation.specs.Run.{lineBytes, judgedNext}
+use Rattle.confirmation.specs.Run.{judgedNext}
 use Rattle.confirmation.specs.Follow.{followFrom, followedOf}
 use Rattle.confirmation.proofs.Nexts.{next-refused, next-line-bytes}
 use Rattle.confirmation.proofs.Bodies.{line-has-bytes}
@@ -42,7 +43,7 @@ module _ {bytes : List ℕ} {size : ℕ} {first run : Run} {at : ℕ} (h : Reach
     ready = record { goes-on = goes-on; some = omega (arith, length-drop at bytes) }
 
     accepts : told .number ≡ 0 → walkRefusal (run .walk) .number ≡ 0
-    accepts e = ap (λ (r : Refusal). r .number) (sym is) ∙ e
+    accepts e = same-number (sym is) ∙ e
 
     -- there is a turn left for it
     spend : {A : Type 0}
@@ -62,7 +63,7 @@ module _ {bytes : List ℕ} {size : ℕ} {first run : Run} {at : ℕ} (h : Reach
     pub reached-barred : {next : Run} (part : List ℕ) → (told .number ≡ 0 → ⊥) → next ≡ judgedNext run part
         → followedOf first bytes ≡ record { run = next; taken = at }
     reached-barred part n j =
-        let b : walkRefusal (run .walk) .number ≡ 0 → ⊥ = λ e. n (ap (λ (r : Refusal). r .number) is ∙ e) in
+        let b : walkRefusal (run .walk) .number ≡ 0 → ⊥ = λ e. n (same-number is ∙ e) in
         spend
         (λ k l e.
         e ∙ follow-barred run (drop at bytes) k at ready b

@@ -1,26 +1,25 @@
 -- The promises on a run, of the definitions that the calls' contracts cite. Assumes nothing.
 use Prim.Native.Nat.{ℕ, _+_, _<_, _≤_}
 use mathlib.Core.Path.{_≡_, refl, sym, ap, subst, _∙_}
-use mathlib.Core.List.{List, [], _∷_, _++_, append-assoc, append-nil, flatten}
+use mathlib.Core.List.{List, [], _∷_, _++_, flatten}
 use mathlib.Core.Bool.{true}
 use native.Mathlib.Omega.{arith}
 use lib.ListN.{length, drop, length-append, length-drop, drop-of-length-le, List·getD-append}
 use lib.Seq.{drop-at}
 use borrow.Author.Tests.{lt-ltb, le-ltb, ne-eqb}
-use Rattle.refusal.specs.declared.Refusal.{Refusal}
-use Rattle.refusal.specs.Answer.{orElse}
 use Rattle.refusal.specs.Table.{Keeps}
-use Rattle.refusal.proofs.Cases.{by-test}
+use Rattle.refusal.proofs.Firsts.{same-number}
+use Rattle.intake.proofs.Pieces.{Whole, fed-whole}
 use Rattle.system.specs.Figures.{isSystem}
-use Rattle.system.specs.Walk.{mostLines, isLine, walkRefusal, freshRefusal, freshOf}
-use Rattle.system.specs.Refusals.{freshRefusals}
-use Rattle.system.proofs.Laws.{walk-many-lines, fresh-no-system}
-use Rattle.system.proofs.Theorems.{fresh-exact}
+use Rattle.system.specs.Walk.{mostLines, isLine, walkRefusal}
+use Rattle.system.specs.Refusals.{namedRefusals}
+use Rattle.system.proofs.Laws.{walk-many-lines, named-accepted, named-no-system}
+use Rattle.system.proofs.Theorems.{fresh-refusal, named-exact}
 use Rattle.confirmation.specs.declared.Run.{Run}
 use Rattle.confirmation.specs.declared.Followed.{Followed}
 use Rattle.confirmation.specs.declared.Outcome.{Outcome}
 use Rattle.confirmation.specs.Run.{headerLength, headerWord, headerSystem, headerStart, begunOf, bodyOf, confirmedOf, outcomeOf}
-use Rattle.confirmation.specs.Follow.{followedOf, closedOf, fed}
+use Rattle.confirmation.specs.Follow.{followedOf, closedOf, following, fed}
 use Rattle.confirmation.proofs.Nexts.{endedWith, next-refused}
 use Rattle.confirmation.proofs.Bodies.{line-has-bytes, body-none}
 use Rattle.confirmation.proofs.Follows.{Short, follow-rests, follow-barred, follow-within, body-followed, close-body}
@@ -34,14 +33,14 @@ taken-within r bytes =
     let w = follow-within (length bytes) r bytes 0 (length bytes) (omega arith) (omega arith) in
     (w .taken, λ o. omega (arith, w .taken, w .left o, length-drop (followedOf r bytes .taken) bytes))
 
-fed-body : (ps : List (List ℕ)) (r : Run) (held : List ℕ) → Short r held → fed r held ps ≡ bodyOf r (held ++ flatten ps)
-unfolding fed followedOf flatten
-fed-body [] r held h = rw append-nil (close-body r held h)
-fed-body (piece ∷ ps) r held h =
-    let bytes = held ++ piece in
-    fed-body ps _ _ (taken-within r bytes .1)
-    ∙ sym (body-followed (length bytes) r bytes 0 bytes (flatten ps) refl)
-    ∙ rw append-assoc
+followed-whole : Whole Run ℕ following bodyOf Short
+unfolding followedOf
+followed-whole =
+    record {
+      goes-on = λ r ready more. body-followed (length ready) r ready 0 ready more refl;
+      left = λ r ready. taken-within r ready .1;
+      ends = close-body;
+    }
 
 -- a header is its first four bytes
 pub header-more : (h more : List ℕ) (i : ℕ) → length h ≡ headerLength → i + 1 < headerLength → headerWord (h ++ more) i ≡ headerWord h i
@@ -60,7 +59,7 @@ begun-more h more e = rw (header-more h more 0 e (omega arith), header-more h mo
 pub any-pieces : (h : List ℕ) (ps : List (List ℕ)) → length h ≡ headerLength → fed (begunOf h) [] ps ≡ confirmedOf (h ++ flatten ps)
 unfolding confirmedOf
 any-pieces h ps e =
-    fed-body ps (begunOf h) [] (λ o. line-has-bytes (begunOf h .walk))
+    fed-whole following bodyOf Short followed-whole ps (begunOf h) [] (λ o. line-has-bytes (begunOf h .walk))
     ∙ ap (λ (r : Run). bodyOf r (flatten ps)) (sym (begun-more h (flatten ps) e))
     ∙ ap (bodyOf (begunOf (h ++ flatten ps))) (sym (drop-at h (flatten ps) headerLength e))
 
@@ -69,7 +68,8 @@ pub short-header : (h : List ℕ) → length h < headerLength → (confirmedOf h
 unfolding confirmedOf begunOf isSystem
 short-header h l =
     let m : length h ≤ headerLength = omega arith in
-    (ap (bodyOf (begunOf h)) (drop-of-length-le h m) ∙ body-none (begunOf h), simp (lt-ltb (length h) headerLength l, fresh-no-system 0 0 refl))
+    let one = same-number (sym (fresh-refusal 0 0)) ∙ same-number (named-no-system 0 0 refl) in
+    (ap (bodyOf (begunOf h)) (drop-of-length-le h m) ∙ body-none (begunOf h), simp (lt-ltb (length h) headerLength l) one)
 
 -- ---- Refusals end a run.
 -- Any byte after 10,000,000 lines is refusal 4, at once: the walk stands, and the byte is not taken.
@@ -78,8 +78,8 @@ pub limit-at-once : (r : Run) (b : ℕ) (bytes : List ℕ) → r .number ≡ 0 �
     → followedOf r (b ∷ bytes) ≡ record { run = endedWith r (record { number = 4; place = 0 }); taken = 0 }
 unfolding followedOf
 limit-at-once r b bytes o s n m =
-    let e = walk-many-lines (r .walk) s n m in
-    let bars : walkRefusal (r .walk) .number ≡ 0 → ⊥ = λ z. omega (arith, ap (λ (x : Refusal). x .number) e) in
+    let e = walk-many-lines (r .walk) (same-number (named-accepted (r .walk .system) (r .walk .line) s n)) m in
+    let bars : walkRefusal (r .walk) .number ≡ 0 → ⊥ = λ z. omega (arith, same-number e) in
     follow-barred r (b ∷ bytes) (length bytes) 0 (record { goes-on = o; some = omega arith }) bars
     ∙ ap (λ (s : Run). record { run = s; taken = 0 }) (next-refused r (b ∷ bytes) bars ∙ ap (endedWith r) e)
 
@@ -96,19 +96,12 @@ unfolding outcomeOf
 outcome-line r = (λ l. simp (lt-ltb (r .number) 3 l), λ l. simp (le-ltb (r .number) 3 l))
 
 -- ---- Each refusal of a header comes exactly when its condition holds and none earlier does.
--- the answer to a fresh walk is its refusal
-fresh-refusal : (number start : ℕ)
-    → freshRefusal number start ≡ record { number = freshOf number start .number; place = freshOf number start .place }
-unfolding freshOf freshRefusal orElse
-fresh-refusal number start =
-    by-test (isSystem number) (λ a. by-test (isLine number start) (λ b. simp (a, b)) (λ b. simp (a, b))) (λ a. simp a)
-
 pub begin-exact : (h : List ℕ)
-    → Keeps (freshRefusals (headerSystem h) (headerStart h)) (record { number = begunOf h .number; place = begunOf h .place })
+    → Keeps (namedRefusals (headerSystem h) (headerStart h)) (record { number = begunOf h .number; place = begunOf h .place })
 unfolding begunOf
 begin-exact h =
-    subst (Keeps (freshRefusals (headerSystem h) (headerStart h))) (fresh-refusal (headerSystem h) (headerStart h))
-    (fresh-exact (headerSystem h) (headerStart h))
+    subst (Keeps (namedRefusals (headerSystem h) (headerStart h))) (fresh-refusal (headerSystem h) (headerStart h))
+    (named-exact (headerSystem h) (headerStart h))
 
 -- ---- Two results allowed for one input are the same.
 pub begin-one-result : (h : List ℕ) (r s : Run) → r ≡ begunOf h → s ≡ begunOf h → r ≡ s

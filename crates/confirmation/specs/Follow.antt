@@ -1,13 +1,14 @@
 -- The same run in steps, as bytes arrive: what one call takes of the bytes that lie ready, and what the end of the input adds.
 use Prim.Native.Nat.{ℕ, zero, suc, _+_}
-use mathlib.Core.List.{List, [], _∷_, _++_}
+use mathlib.Core.List.{List}
 use mathlib.Core.Bool.{Bool, cond, not, _||_}
 use lib.Dec.{ltb, eqb}
 use lib.ListN.{length, take, drop}
-use Rattle.system.specs.Walk.{walkRefusal}
+use Rattle.intake.specs.Arrival.{Taking, fedBy}
+use Rattle.system.specs.Walk.{walkRefusal, lineBytes}
 use Rattle.confirmation.specs.declared.Run.{Run}
 use Rattle.confirmation.specs.declared.Followed.{Followed}
-use Rattle.confirmation.specs.Run.{lineBytes, judgedNext}
+use Rattle.confirmation.specs.Run.{judgedNext}
 
 -- nothing can be judged: the run has ended, or no byte is there
 abbrev pub waits : Run → List ℕ → Bool
@@ -31,7 +32,8 @@ unfoldable pub closedOf : Run → List ℕ → Run
 closedOf r bytes = cond (waits r bytes) r (judgedNext r bytes)
 
 -- Input that arrives in pieces: the bytes that were not taken stay and stand before the next piece, and the end closes the run.
-unfoldable pub fed : Run → List ℕ → List (List ℕ) → Run
-fed r held [] = closedOf r held
-fed r held (piece ∷ rest) =
-    fed (followedOf r (held ++ piece) .run) (drop (followedOf r (held ++ piece) .taken) (held ++ piece)) rest
+abbrev pub following : Taking Run ℕ
+following = record { after = λ r bytes. followedOf r bytes .run; taken = λ r bytes. followedOf r bytes .taken; closed = closedOf }
+
+abbrev pub fed : Run → List ℕ → List (List ℕ) → Run
+fed r held ps = fedBy following r held ps

@@ -1,14 +1,13 @@
 -- Document 01, "The confirming program": what a run over bytes comes to, whole, for every list of bytes.
-use Prim.Native.Nat.{ℕ, _*_}
+use Prim.Native.Nat.{ℕ}
 use mathlib.Core.List.{List, [], _∷_}
 use mathlib.Core.Bool.{cond}
 use lib.Dec.{ltb, eqb}
 use lib.ListN.{length, drop}
 use Rattle.intake.specs.Arrival.{allPieces}
-use Rattle.system.specs.declared.Walk.{Walk}
-use Rattle.system.specs.Figures.{lineLength, systemOf}
-use Rattle.system.specs.Walk.{freshOf}
-use Rattle.lent.specs.Bytes.{wordOfBytes, judgedBytes}
+use Rattle.system.specs.Walk.{freshOf, lineBytes}
+use Rattle.words.specs.Bytes.{wordOfBytes}
+use Rattle.bytewise.specs.Bytes.{judgedBytes}
 use Rattle.confirmation.specs.declared.Run.{Run}
 use Rattle.confirmation.specs.declared.Outcome.{Outcome}
 
@@ -36,10 +35,6 @@ begunOf bytes =
       number = freshOf (headerSystem bytes) (headerStart bytes) .number;
       place = freshOf (headerSystem bytes) (headerStart bytes) .place;
     }
-
--- the bytes of the line that a walk awaits
-abbrev pub lineBytes : Walk → ℕ
-lineBytes w = 2 * lineLength (systemOf (w .system))
 
 -- a run after these bytes were judged as its next line: bytes short of a line are 3, "but any byte after 10,000,000 lines is refusal 4"
 unfoldable pub judgedNext : Run → List ℕ → Run

@@ -4,12 +4,11 @@ mod totals;
 pub use totals::Totals;
 pub use totals::follows_on;
 ghost use mathlib.Core.Path.{_≡_};
-ghost use Prim.Native.Nat.{_+_, _*_, _≤_};
-ghost use Rattle.system.specs.declared.System.the-variants.{Lines625};
-ghost use Rattle.system.specs.Figures.{lineLength};
-ghost use Rattle.confirmation.specs.Run.{headerLength, headerWord, begunOf, lineBytes, judgedNext, outcomeOf};
+ghost use Prim.Native.Nat.{_+_, _≤_};
+ghost use Rattle.confirmation.specs.Run.{headerLength, headerWord, begunOf, judgedNext, outcomeOf};
 ghost use Rattle.confirmation.specs.Follow.{followedOf, closedOf};
 use system::Walk;
+use words::word_of;
 
 // The bytes of a header: two words.
 const HEADER_LENGTH: usize = 4;
@@ -40,13 +39,6 @@ pub struct Outcome {
     pub place: usize,
 }
 
-// Two bytes as a word, low byte first.
-fn word(low: u8, high: u8) -> u32
-    ensures { λ r. ⌜ r ≡ low + 256 * high ⌝ }
-{
-    low as u32 + 256 * (high as u32)
-}
-
 // The word at a byte of a header. Under four bytes of header it is 0.
 fn header_word(header: &[u8], at: usize) -> u32
     requires { ⌜ at + 2 ≤ headerLength ⌝ }
@@ -55,15 +47,7 @@ fn header_word(header: &[u8], at: usize) -> u32
     if header.len() < HEADER_LENGTH {
         return 0;
     }
-    word(header[at], header[at + 1])
-}
-
-// The bytes of the line that a walk awaits: at most those of the longer line.
-pub fn line_bytes(walk: Walk) -> usize
-    ensures bytes { λ r. ⌜ r ≡ lineBytes walk ⌝ }
-    ensures most { λ r. ⌜ r ≤ 2 * lineLength Lines625 ⌝ }
-{
-    2 * system::system_of(walk.system).line_length()
+    word_of(header[at], header[at + 1]) as u32
 }
 
 impl Run {
@@ -88,7 +72,7 @@ impl Run {
     pub fn next(self, bytes: &[u8]) -> Run
         ensures { λ r. ⌜ r ≡ judgedNext self (now (bytes .entry)) ⌝ }
     {
-        let judgement = lent::judge(self.walk, bytes);
+        let judgement = bytewise::judge(self.walk, bytes);
         let walk = judgement.walk;
         Run {
             system: self.system,
@@ -104,7 +88,8 @@ impl Run {
     pub fn follow(self, bytes: &[u8]) -> Followed
         ensures { λ r. ⌜ r ≡ followedOf self (now (bytes .entry)) ⌝ }
     {
-        let size = line_bytes(self.walk);
+        let walk = self.walk;
+        let size = walk.line_bytes();
         let mut run = self;
         let mut at: usize = 0;
         while run.number == 0 && at < bytes.len() {

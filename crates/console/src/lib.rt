@@ -3,7 +3,9 @@
 mod name;
 mod refusal;
 
+pub use name::put;
 pub use name::say_name;
+pub use refusal::say_place;
 pub use refusal::say_refused;
 ghost use mathlib.Core.Bool.{false};
 ghost use mathlib.Core.Path.{_≡_};
@@ -22,6 +24,9 @@ use system::System;
 use system::System525;
 use system::System625;
 use system::Walk;
+
+// How many turns pass between two reports of progress.
+const TURNS_A_REPORT: u64 = 4096;
 
 // How reading or writing ended. A failed read is never the end of the input. What Failed stands for was said where it happened.
 pub enum Status {
@@ -161,16 +166,25 @@ fn say_next(output: i32, between: &[u8], text: &[u8], number: u64) -> bool {
     io::write_all(output, between) && say(output, text, number)
 }
 
-// Writes the confirming program's five lines, with something else in place of the ends of lines.
-fn print_numbers(output: i32, outcome: Outcome, between: &[u8]) -> bool {
+// The first four of the confirming program's five lines, with something else in place of the ends of lines.
+fn print_counts(output: i32, outcome: Outcome, between: &[u8]) -> bool {
     let mut is_written = say(output, b"SYSTEM ", outcome.system as u64);
     is_written = is_written & say_next(output, between, b"START ", outcome.start as u64);
     is_written = is_written & say_next(output, between, b"LINES ", outcome.lines as u64);
-    is_written = is_written & say_next(output, between, b"REPAIRS ", outcome.repairs as u64);
-    is_written = is_written & say_next(output, between, b"RESULT ", outcome.number as u64);
+    is_written & say_next(output, between, b"REPAIRS ", outcome.repairs as u64)
+}
+
+// And the fifth.
+fn print_result(output: i32, outcome: Outcome, between: &[u8]) -> bool {
+    let mut is_written = say_next(output, between, b"RESULT ", outcome.number as u64);
     is_written = is_written & say(output, b" ", outcome.line as u64);
     is_written = is_written & say(output, b" ", outcome.place as u64);
     is_written & io::write_all(output, between)
+}
+
+fn print_numbers(output: i32, outcome: Outcome, between: &[u8]) -> bool {
+    let is_written = print_counts(output, outcome, between);
+    is_written & print_result(output, outcome, between)
 }
 
 // Writes the confirming program's five lines. True where all of them were written.
@@ -239,9 +253,35 @@ pub fn show(walk: Walk) {
     say(STDERR_FILENO, b" repairs ", walk.repairs as u64);
 }
 
+// The same in a loop that has so many turns left: at some of them, and where progress is shown.
+pub fn show_turn(is_shown: bool, turns: u64, walk: Walk) {
+    if is_shown && turns % TURNS_A_REPORT == 0 {
+        show(walk);
+    }
+}
+
 // Clears the line of progress.
 pub fn end_show() {
     io::write_all(STDERR_FILENO, b"\r\x1b[K");
+}
+
+// The same behind such a loop, where progress is shown.
+pub fn end_turns(is_shown: bool) {
+    if is_shown {
+        end_show();
+    }
+}
+
+// How many turns a loop over the input has left after one of them: none where it is done. A proved loop has to end, and nothing says
+// that the input does: the turns count down from a number that no input uses up.
+pub fn turns_left(turns: u64, is_done: bool) -> u64
+    requires { ⌜ 0 < turns ⌝ }
+    ensures { λ r. ⌜ r < turns ⌝ }
+{
+    if is_done {
+        return 0;
+    }
+    turns - 1
 }
 
 // Begins a message: whose it is, and of which recording. With no name it is standard input's.

@@ -18,16 +18,20 @@ fn hexadecimal(number: u8) -> u8 {
     b'a' + (digit - 10)
 }
 
-// Puts a byte into the text, where there is room, and answers where the next one goes.
-fn put(text: &mut [u8], at: usize, byte: u8) -> usize
+// Puts bytes into a text from an offset on, as far as there is room, and answers the offset behind them.
+pub fn put(text: &mut [u8], at: usize, bytes: &[u8]) -> usize
     requires { ⌜ at ≤ length (now text) ⌝ }
     ensures { λ r. ⌜ r ≤ length (now (text .exit)) ⌝ }
 {
-    if at == text.len() {
-        return at;
+    let mut next = at;
+    for i in 0..bytes.len() {
+        if next == text.len() {
+            return next;
+        }
+        text[next] = bytes[i];
+        next += 1;
     }
-    text[at] = byte;
-    at + 1
+    next
 }
 
 // Puts a byte of a name into the text, as itself or as \xHH.
@@ -36,12 +40,13 @@ fn put_shown(text: &mut [u8], at: usize, byte: u8) -> usize
     ensures { λ r. ⌜ r ≤ length (now (text .exit)) ⌝ }
 {
     if is_plain(byte) {
-        return put(text, at, byte);
+        return put(text, at, &[byte]);
     }
-    let next = put(text, at, b'\\');
-    let next = put(text, next, b'x');
-    let next = put(text, next, hexadecimal(byte / 16));
-    put(text, next, hexadecimal(byte))
+    put(
+        text,
+        at,
+        &[b'\\', b'x', hexadecimal(byte / 16), hexadecimal(byte)],
+    )
 }
 
 // Puts a name into the text, as far as there is room, and answers how many bytes it took.

@@ -30,6 +30,13 @@ fn say_words(number: u32) -> bool {
     }
 }
 
+// Says where something was refused.
+pub fn say_place(line: u32, place: usize) {
+    say(STDERR_FILENO, b", line ", line as u64);
+    say(STDERR_FILENO, b", place ", place as u64);
+    io::write_all(STDERR_FILENO, b": ");
+}
+
 // Says why a recording was refused. With no name it is standard input's.
 pub fn say_refused(verb: &[u8], name: &[u8], outcome: Outcome) {
     say_of(verb, name);
@@ -37,8 +44,6 @@ pub fn say_refused(verb: &[u8], name: &[u8], outcome: Outcome) {
         io::write_all(STDERR_FILENO, b": ");
     }
     say(STDERR_FILENO, b"refused ", outcome.number as u64);
-    say(STDERR_FILENO, b", line ", outcome.line as u64);
-    say(STDERR_FILENO, b", place ", outcome.place as u64);
-    io::write_all(STDERR_FILENO, b": ");
+    say_place(outcome.line, outcome.place);
     say_words(outcome.number);
 }

@@ -35,22 +35,6 @@ fn ending(number: u32) -> [u8; 9]
     ]
 }
 
-// Puts text into a path from an offset on, as far as there is room, and answers the offset behind it.
-fn put(path: &mut [u8], at: usize, text: &[u8]) -> usize
-    requires { ⌜ at ≤ length (now path) ⌝ }
-    ensures { λ r. ⌜ r ≤ length (now (path .exit)) ⌝ }
-{
-    let mut next = at;
-    for i in 0..text.len() {
-        if next == path.len() {
-            return next;
-        }
-        path[next] = text[i];
-        next += 1;
-    }
-    next
-}
-
 // The folder's name without a slash at its end.
 fn bare(folder: &[u8]) -> usize
     ensures { λ r. ⌜ r ≤ length (now (folder .entry)) ⌝ }
@@ -71,8 +55,8 @@ fn name(folder: &[u8], number: u32, path: &mut [u8]) -> usize
     ensures { λ r. ⌜ r ≤ length (now (path .exit)) ⌝ }
 {
     let size = bare(folder);
-    let at = put(path, 0, &folder[0..size]);
-    put(path, at, &ending(number))
+    let at = console::put(path, 0, &folder[0..size]);
+    console::put(path, at, &ending(number))
 }
 
 // Writes a recording's name. True where all of it was written.
@@ -126,8 +110,8 @@ pub fn is_folder(name: &[u8]) -> bool {
         return false;
     }
     let mut path = io::buffer();
-    let at = put(&mut path, 0, name);
-    let length = put(&mut path, at, b"/.");
+    let at = console::put(&mut path, 0, name);
+    let length = console::put(&mut path, at, b"/.");
     let file = os::open_read(&path[0..length]);
     if file < 0 {
         return false;

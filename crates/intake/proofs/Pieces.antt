@@ -1,5 +1,6 @@
--- Laws of pieces; and that however bytes arrive, a buffer that is filled and handed on gives the same pieces. Assumes nothing.
-use Prim.Native.Nat.{ℕ, zero, suc, _+_, _≤_}
+-- Laws of pieces; that however bytes arrive, a buffer that is filled and handed on gives the same pieces; and that however input is cut, a
+-- state that takes it comes to the same. Assumes nothing.
+use Prim.Native.Nat.{ℕ, zero, suc, _+_, _-_, _≤_}
 use mathlib.Core.Path.{_≡_, refl, sym, ap, subst, _∙_}
 use mathlib.Core.List.{List, [], _∷_, _++_, append-assoc, append-nil, flatten}
 use mathlib.Core.List.{List·Memᴰ, List·Memᴰ·head, List·Memᴰ·tail}
@@ -7,10 +8,14 @@ use mathlib.Core.Bool.{Bool, cond}
 use native.Mathlib.Omega.{arith}
 use lib.Dec.{eqb}
 use lib.ListN.{length, take, drop, length-append, length-drop, take-append-drop}
-use lib.Seq.{take-at, drop-at}
+use lib.Seq.{take-at, drop-at, length-take-le}
 use borrow.Author.Tests.{eqb-true}
 use Rattle.refusal.proofs.Cases.{by-test}
-use Rattle.intake.specs.Arrival.{pieces, allPieces, handedOn, Fits}
+use Rattle.intake.specs.Arrival.{pieces, allPieces, handedOn, Fits, Taking, fedBy}
+
+-- the first so many of a list that has them
+pub start-long : (n : ℕ) (xs : List ℕ) → n ≤ length xs → length (take (n - 0) xs) ≡ n
+start-long n xs fits = length-take-le (n - 0) xs (omega arith) ∙ omega arith
 
 -- more than enough pieces are the same pieces
 pub pieces-enough : (n j k : ℕ) (bytes : List ℕ) → 1 ≤ n → length bytes ≤ j → length bytes ≤ k → pieces j n bytes ≡ pieces k n bytes
@@ -77,3 +82,17 @@ module _ (n : ℕ) (some : 1 ≤ n) where
 -- Reads that fit, of whatever lengths, hand on the pieces of all that they gave.
 pub any-reads : (n : ℕ) (reads : List (List ℕ)) → 1 ≤ n → Fits n 0 reads → handedOn n [] reads ≡ allPieces n (flatten reads)
 any-reads n reads some fits = held-and-reads n some reads [] fits
+
+-- A state that takes input in any pieces comes to this of the whole: to the same whether some elements were taken before more came or all
+-- came at once, and at the end, of what may be left.
+pub record Whole (S A : Type 0) (by : Taking S A) (whole : S → List A → S) (Left : S → List A → Type 0) : Type 0 where
+  pub goes-on : (s : S) (ready more : List A) → whole s (ready ++ more) ≡ whole (by .after s ready) (drop (by .taken s ready) ready ++ more)
+  pub left : (s : S) (ready : List A) → Left (by .after s ready) (drop (by .taken s ready) ready)
+  pub ends : (s : S) (held : List A) → Left s held → by .closed s held ≡ whole s held
+
+module _ {S A : Type 0} (by : Taking S A) (whole : S → List A → S) (Left : S → List A → Type 0) (w : Whole S A by whole Left) where
+  pub fed-whole : (ps : List (List A)) (s : S) (held : List A) → Left s held → fedBy by s held ps ≡ whole s (held ++ flatten ps)
+  unfolding fedBy flatten
+  fed-whole [] s held l = rw append-nil (w .ends s held l)
+  fed-whole (piece ∷ ps) s held l =
+      fed-whole ps _ _ (w .left s (held ++ piece)) ∙ sym (w .goes-on s (held ++ piece) (flatten ps)) ∙ rw append-assoc

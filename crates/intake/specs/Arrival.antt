@@ -1,4 +1,4 @@
--- How bytes arrive: what a read tells, how reads fill a buffer, and how bytes are cut into pieces of one size.
+-- How bytes arrive: what a read tells, how reads fill a buffer, how bytes are cut into pieces of one size, and how a state takes what arrives.
 use Prim.Native.Nat.{ℕ, zero, suc, _+_, _%_, _^_, _≤_}
 use mathlib.Core.List.{List, [], _∷_, _++_}
 use mathlib.Core.Bool.{Bool, true, false, cond, _||_}
@@ -58,3 +58,16 @@ handedOn n held (read ∷ rest) =
 abbrev pub Fits : ℕ → ℕ → List (List ℕ) → Type 0
 Fits n held [] = Unit {0}
 Fits n held (read ∷ rest) = (held + length read ≤ n) × Fits n (cond (eqb (held + length read) n) 0 (held + length read)) rest
+
+-- How a state takes input: what it is once it has taken what it can of the elements that lie ready, how many of them that was, and what it
+-- is at the end of the input, where so many are left.
+pub record Taking (S A : Type 0) : Type 0 where
+  pub after : S → List A → S
+  pub taken : S → List A → ℕ
+  pub closed : S → List A → S
+
+-- Input that arrives in pieces: the elements that were not taken stay and stand before the next piece, and the end closes.
+unfoldable pub fedBy : {S A : Type 0} → Taking S A → S → List A → List (List A) → S
+fedBy by s held [] = by .closed s held
+fedBy by s held (piece ∷ rest) =
+    fedBy by (by .after s (held ++ piece)) (drop (by .taken s (held ++ piece)) (held ++ piece)) rest

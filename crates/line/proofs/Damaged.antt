@@ -1,10 +1,10 @@
 -- A written line that damage struck, read: no fault and its samples back, or 8 in its place. By what is due at each offset. Assumes nothing.
-use Prim.Native.Nat.{ℕ, zero, suc, _+_, _-_, _*_, _/_, _%_, _<_, _≤_}
-use mathlib.Core.Path.{_≡_, refl, sym, ap, subst, _∙_}
+use Prim.Native.Nat.{ℕ, zero, suc, _+_, _-_, _/_, _<_, _≤_}
+use mathlib.Core.Path.{_≡_, sym, ap, _∙_}
 use mathlib.Core.List.{List}
-use mathlib.Core.Bool.{Bool, true, false, cond}
+use mathlib.Core.Bool.{true, false, cond}
 use native.Mathlib.Omega.{arith}
-use lib.Dec.{ltb, eqb}
+use lib.Dec.{ltb}
 use lib.ListN.{length, getD}
 use borrow.Author.Tests.{le-ltb, lt-ltb, eq-eqb}
 use Rattle.refusal.specs.Answer.{none}
@@ -14,24 +14,21 @@ use Rattle.timing.specs.Code.{legalOf, fourthOf, sevenOf, distanceOf, correctio
 use Rattle.timing.specs.Report.{numberWhere, codeReportOf, repairsIn}
 use Rattle.timing.proofs.Laws.{fourth-high, fourth-seven, found, at-distance, found-accepted, found-repairs}
 use Rattle.system.specs.Figures.{lineLength, savOffset, activeOffset}
-use Rattle.system.proofs.Laws.{line-is-parts, sav-low}
-use Rattle.line.specs.declared.Due.{Due}
+use Rattle.system.proofs.Laws.{line-is-parts, sav-low, flags-low}
+use Rattle.system.specs.declared.due.Due.{Due}
 use Rattle.line.specs.declared.What.{What}
-use Rattle.line.specs.declared.What.the-variants.{Ones, Zeros, Fourth, Fill, Sample}
-use Rattle.line.specs.Due.{flagsOf, dueAt}
+use Rattle.line.specs.declared.What.the-variants.{Fourth}
+use Rattle.system.specs.Due.{flagsOf}
+use Rattle.line.specs.Offsets.{dueAt}
 use Rattle.line.specs.Fault.{faultWhere, faultAt, wordRefusal}
-use Rattle.line.specs.Samples.{Samples, activeLength, sampleAt, wordWhere, wordAt, lineOf, samplesOf}
+use Rattle.line.specs.Samples.{Samples, sampleAt, wordWhere, wordAt, lineOf, samplesOf}
 use Rattle.line.specs.Fit.{Fit}
+use Rattle.line.specs.Parts.{Proper}
 use Rattle.line.specs.Damage.{Near, DamagedUpTo, toldOf}
-use Rattle.line.proofs.Tabs.{length-tab, getD-tab}
-use Rattle.line.proofs.Dues.{by-due, eav-due, sav-due, due-eav, due-sample, flags-low}
+use Rattle.words.proofs.Tabs.{length-tab, getD-tab}
+use Rattle.line.proofs.Dues.{by-due, eav-due, sav-due, due-eav, due-sample}
 use Rattle.line.proofs.Faults.{ones-well, zeros-well, fourth-fault, fill-well, sample-well}
 use Rattle.line.proofs.Places.{samples-back}
-
--- fill that is a word of ten bits: all that the laws of a damaged line ask of what is due
-pub record Proper (d : Due) : Type 0 where
-  pub even : d .even ≤ 1023
-  pub odd : d .odd ≤ 1023
 
 -- a written line's length and words
 module _ (d : Due) (p : Samples) where
@@ -68,7 +65,7 @@ header d b i l =
     let four : i < 4 = omega arith in
     due-eav d i four ∙ rw (lt-ltb _ _ l) (sym (due-eav b i four ∙ rw (lt-ltb _ _ l)))
 
-module _ (d : Due) (ok : Proper d) (p : Samples) (fit : Fit d p) (read : List ℕ) (e s end : ℕ) (low : end ≤ lineLength (d .system))
+module _ (d : Due) (ok : Proper (d .fill)) (p : Samples) (fit : Fit d p) (read : List ℕ) (e s end : ℕ) (low : end ≤ lineLength (d .system))
     (dam : DamagedUpTo end d (lineOf d p) read e s) where
   pub read-length : length read ≡ lineLength (d .system)
   read-length = dam .size ∙ line-length d p

@@ -1,33 +1,32 @@
 -- A line without fault is the image of a line that can be written; and damage of every kind is damage. Assumes nothing.
-use Prim.Native.Nat.{ℕ, _+_, _-_, _*_, _/_, _%_, _<_, _≤_}
+use Prim.Native.Nat.{ℕ, _+_, _-_, _*_, _/_, _<_, _≤_}
 use mathlib.Core.Path.{_≡_, refl, sym, ap, _∙_}
 use mathlib.Core.List.{List}
 use mathlib.Core.Bool.{Bool, true, false, cond}
 use native.Mathlib.Omega.{arith}
 use lib.Bits.{bitXor}
 use lib.Count.{onesIn, ones}
-use lib.Dec.{T, ltb, leb, eqb, eqb→eq, ltb→lt}
+use lib.Dec.{T, ltb, eqb, eqb→eq, ltb→lt}
 use lib.ListN.{length, getD}
 use borrow.Author.Tests.{le-ltb}
-use Rattle.refusal.specs.declared.Refusal.{Refusal}
 use Rattle.refusal.proofs.Cases.{by-cond}
 use Rattle.refusal.proofs.Firsts.{first-none-back}
 use Rattle.timing.specs.Code.{legalOf, fourthOf, sevenOf, distanceOf, correctionOf}
-use Rattle.timing.specs.Report.{numberWhere, codeReportOf, repairsIn}
+use Rattle.timing.specs.Report.{codeReportOf, repairsIn}
 use Rattle.timing.proofs.Every.{both, both-left, both-right, every, lift, lift2}
 use Rattle.timing.proofs.Laws.{fourth-high, fourth-seven, accepted-away}
 use Rattle.system.specs.Figures.{lineLength, savOffset, activeOffset}
-use Rattle.system.proofs.Laws.{line-is-parts, sav-low}
-use Rattle.line.specs.declared.Due.{Due}
-use Rattle.line.specs.declared.What.{What}
-use Rattle.line.specs.declared.What.the-variants.{Ones, Zeros, Fourth, Fill, Sample}
-use Rattle.line.specs.Due.{flagsOf, dueAt}
+use Rattle.system.proofs.Laws.{line-is-parts, sav-low, flags-low}
+use Rattle.system.specs.declared.due.Due.{Due}
+use Rattle.line.specs.declared.What.the-variants.{Fourth}
+use Rattle.system.specs.Due.{flagsOf}
+use Rattle.line.specs.Offsets.{dueAt}
 use Rattle.line.specs.Fault.{faultWhere, faultAt, wordRefusal}
-use Rattle.line.specs.Samples.{Samples, activeLength, sampleAt, wordWhere, wordAt, lineOf, samplesOf}
+use Rattle.line.specs.Samples.{Samples, sampleAt, wordWhere, wordAt, lineOf, samplesOf}
 use Rattle.line.specs.Fit.{Fit}
 use Rattle.line.specs.Damage.{Near, Damaged, struckWhere, struck}
-use Rattle.line.proofs.Tabs.{length-tab, getD-tab}
-use Rattle.line.proofs.Dues.{by-due, due-sample, flags-low}
+use Rattle.words.proofs.Tabs.{length-tab, getD-tab}
+use Rattle.line.proofs.Dues.{by-due, due-sample}
 use Rattle.line.proofs.Faults.{ones-told, zeros-told, fourth-fault, fill-told, sample-told}
 use Rattle.line.proofs.Places.{taken-measured, taken-in-place}
 use Rattle.line.proofs.Damaged.{line-length, line-word}

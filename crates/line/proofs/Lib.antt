@@ -1,8 +1,9 @@
-pub mod Tabs
-pub mod Stores
 pub mod Dues
 pub mod Faults
-pub mod Theorems
+pub mod Lengths
+pub mod Passes
+pub mod Parts
 pub mod Places
 pub mod Damaged
 pub mod Images
+pub mod Theorems

@@ -8,20 +8,22 @@ use native.Mathlib.Omega.{arith}
 use lib.Dec.{ltb, eqb}
 use lib.ListN.{length, getD}
 use borrow.Author.Tests.{lt-ltb, ltb-true, ltb-false, eqb-true, eqb-false}
-use Rattle.refusal.specs.Table.{when, _before_, Decides, Keeps}
+use Rattle.refusal.specs.Table.{when, Decides, Keeps}
 use Rattle.refusal.specs.Answer.{refuse}
 use Rattle.refusal.proofs.Cases.{by-test, or-either, or-left, or-right}
 use Rattle.refusal.proofs.Tables.{Numbers, numbers-when, numbers-before, keeps-unequal, keeps-before, keeps-last, keeps-lowest, decides-when, decides-before, decides-lowest}
 use Rattle.timing.proofs.Theorems.{fourth-numbers, fourth-decides}
 use Rattle.system.specs.declared.System.{System}
 use Rattle.system.specs.Figures.{lineLength}
-use Rattle.line.specs.declared.Due.{Due}
-use Rattle.line.specs.Due.{flagsOf, dueAt}
+use Rattle.system.specs.declared.due.Due.{Due}
+use Rattle.system.specs.Due.{flagsOf}
+use Rattle.line.specs.Offsets.{dueAt}
 use Rattle.line.specs.Fault.{leastSample, mostSample, wrongWhere, faultWhere, faultAt, wordRefusal}
 use Rattle.line.specs.Lengths.{lengthRefusal, lengthRefusals, bufferRefusal, bufferRefusals}
 use Rattle.line.specs.Refusals.{whereRefusals, offsetRefusals, wordRefusals}
 use Rattle.line.specs.Samples.{yLength, cLength}
-use Rattle.line.proofs.Dues.{by-due, flags-low}
+use Rattle.line.proofs.Dues.{by-due}
+use Rattle.system.proofs.Laws.{flags-low}
 
 -- ---- lengths
 pub length-exact : (s : System) (words : ℕ) → Keeps (lengthRefusals s words) (lengthRefusal s words)
@@ -65,7 +67,7 @@ where-numbers d w i ten =
     (numbers-when (ltb 3 w) (3 < w) 6 i (ltb-true _ _) (lt-ltb _ _) (λ z. omega arith))
     (λ e. fourth-numbers (flagsOf d true) w i (flags-low d true) ten)
     (λ e. fourth-numbers (flagsOf d false) w i (flags-low d false) ten)
-    (fill-numbers (d .even) w i) (fill-numbers (d .odd) w i)
+    (fill-numbers (d .fill .even) w i) (fill-numbers (d .fill .odd) w i)
     (λ v past. numbers-when _ _ 11 i (reserved w) (reserved-back w) (λ z. omega arith))
 
 offset-numbers : (d : Due) (words : List ℕ) (i : ℕ) → Numbers (offsetRefusals d words i) (faultAt d words i) i

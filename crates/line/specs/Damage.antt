@@ -10,11 +10,11 @@ use lib.ListN.{length, getD}
 use Rattle.timing.specs.declared.CodeReport.{CodeReport}
 use Rattle.timing.specs.declared.CodeReport.the-variants.{Clean, Repaired}
 use Rattle.timing.specs.Code.{legalOf, sevenOf, distanceOf, bitOf}
-use Rattle.line.specs.declared.Due.{Due}
+use Rattle.system.specs.declared.due.Due.{Due}
 use Rattle.line.specs.declared.What.{What}
 use Rattle.line.specs.declared.What.the-variants.{Ones, Zeros, Fourth, Fill, Sample}
-use Rattle.line.specs.Due.{dueAt}
-use Rattle.line.specs.Samples.{tab}
+use Rattle.line.specs.Offsets.{dueAt}
+use Rattle.words.specs.Words.{tab}
 
 -- A word that is read where this was due and that was written: in a fourth word n of the seven bits are inverted, bit 9 is kept and the
 -- low bits are at will; in the other timing words the low bits are at will; elsewhere nothing is changed.

@@ -3,7 +3,7 @@ use Prim.Native.Nat.{ℕ, _<_, _≤_}
 use mathlib.Core.Path.{_≡_}
 use mathlib.Core.Bool.{false}
 use lib.ListN.{length}
-use Rattle.line.specs.declared.Due.{Due}
+use Rattle.system.specs.declared.due.Due.{Due}
 use Rattle.line.specs.Fault.{leastSample, mostSample}
 use Rattle.line.specs.Samples.{Samples, activeLength, yLength, cLength, sampleAt}
 

@@ -5,6 +5,7 @@ use mathlib.Core.Bool.{not}
 use mathlib.Core.List.{[], _∷_}
 use lib.Dec.{eqb}
 use Rattle.refusal.specs.declared.Refusal.{Refusal}
+use Rattle.refusal.specs.Numbers.{wrongLength}
 use Rattle.refusal.specs.Answer.{refuse, firstOf}
 use Rattle.refusal.specs.Table.{Row, when, _before_}
 use Rattle.system.specs.declared.System.{System}
@@ -13,16 +14,17 @@ use Rattle.line.specs.Samples.{yLength, cLength}
 
 -- "Words slices have exactly the line's length"
 abbrev pub lengthRefusal : System → ℕ → Refusal
-lengthRefusal s words = refuse (not (eqb words (lineLength s))) 3 0
+lengthRefusal s words = refuse (not (eqb words (lineLength s))) wrongLength 0
 
 abbrev pub lengthRefusals : System → ℕ → Row
-lengthRefusals s words = when (words ≡ lineLength s → ⊥) 3 0
+lengthRefusals s words = when (words ≡ lineLength s → ⊥) wrongLength 0
 
 -- "Y, CB and CR exactly 720, 360, 360. Within 3 the lowest place is answered."
 unfoldable pub bufferRefusal : ℕ → ℕ → ℕ → Refusal
 bufferRefusal y cb cr =
-    firstOf (refuse (not (eqb y yLength)) 3 1 ∷ refuse (not (eqb cb cLength)) 3 2 ∷ refuse (not (eqb cr cLength)) 3 3 ∷ [])
+    firstOf
+    (refuse (not (eqb y yLength)) wrongLength 1 ∷ refuse (not (eqb cb cLength)) wrongLength 2 ∷ refuse (not (eqb cr cLength)) wrongLength 3 ∷ [])
 
 abbrev pub bufferRefusals : ℕ → ℕ → ℕ → Row
 bufferRefusals y cb cr =
-    when (y ≡ yLength → ⊥) 3 1 before when (cb ≡ cLength → ⊥) 3 2 before when (cr ≡ cLength → ⊥) 3 3
+    when (y ≡ yLength → ⊥) wrongLength 1 before when (cb ≡ cLength → ⊥) wrongLength 2 before when (cr ≡ cLength → ⊥) wrongLength 3

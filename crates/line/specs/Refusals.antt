@@ -4,25 +4,27 @@ use mathlib.Core.Path.{_≡_}
 use mathlib.Core.List.{List}
 use mathlib.Core.Logic.{_⊎_}
 use lib.ListN.{length, getD}
+use Rattle.refusal.specs.Numbers.{overTen, noCode, noFill, reserved}
 use Rattle.refusal.specs.Table.{Row, when, _before_, Lowest}
+use Rattle.words.specs.Words.{mostWord}
 use Rattle.timing.specs.Refusals.{fourthRefusals}
-use Rattle.line.specs.declared.Due.{Due}
+use Rattle.system.specs.declared.due.Due.{Due}
 use Rattle.line.specs.declared.What.{What}
 use Rattle.line.specs.declared.What.the-variants.{Ones, Zeros, Fourth, Fill, Sample}
-use Rattle.line.specs.Due.{dueAt}
-use Rattle.line.specs.Fault.{leastSample, mostSample}
+use Rattle.line.specs.Offsets.{dueAt}
+use Rattle.line.specs.Fault.{leastSample, mostSample, leastOnes, mostZeros}
 
 -- the rows for a word of ten bits at a place, by what is due there
 abbrev pub whereRefusals : What → ℕ → ℕ → Row
-whereRefusals Ones w place = when (w < 1020) 6 place
-whereRefusals Zeros w place = when (3 < w) 6 place
+whereRefusals Ones w place = when (w < leastOnes) noCode place
+whereRefusals Zeros w place = when (mostZeros < w) noCode place
 whereRefusals (Fourth fvh) w place = fourthRefusals fvh w place
-whereRefusals (Fill word) w place = when (w ≡ word → ⊥) 10 place
-whereRefusals Sample w place = when ((w < leastSample) ⊎ (mostSample < w)) 11 place
+whereRefusals (Fill word) w place = when (w ≡ word → ⊥) noFill place
+whereRefusals Sample w place = when ((w < leastSample) ⊎ (mostSample < w)) reserved place
 
 -- "at one offset 5 comes before 6 to 11, and 7, 8, 9 in that order"
 abbrev pub offsetRefusals : Due → List ℕ → ℕ → Row
-offsetRefusals d words i = when (1023 < getD words i 0) 5 i before whereRefusals (dueAt d i) (getD words i 0) i
+offsetRefusals d words i = when (mostWord < getD words i 0) overTen i before whereRefusals (dueAt d i) (getD words i 0) i
 
 -- "then the lowest offset with any fault"
 abbrev pub wordRefusals : Due → List ℕ → Row

@@ -1,23 +1,16 @@
 -- Document 01, "Numbers and layout": the samples of a line, and the line that is written of them.
-use Prim.Native.Nat.{ℕ, zero, suc, _+_, _-_, _*_, _/_, _%_}
-use mathlib.Core.List.{List, [], _∷_}
+use Prim.Native.Nat.{ℕ, _+_, _-_, _*_, _/_, _%_}
+use mathlib.Core.List.{List}
 use mathlib.Core.Bool.{cond}
 use lib.ListN.{getD}
 use lib.Dec.{eqb}
+use Rattle.words.specs.Words.{mostWord, tab}
 use Rattle.system.specs.Figures.{lineLength, activeOffset}
 use Rattle.timing.specs.Code.{fourthOf}
-use Rattle.line.specs.declared.Due.{Due}
+use Rattle.system.specs.declared.due.Due.{Due}
 use Rattle.line.specs.declared.What.{What}
 use Rattle.line.specs.declared.What.the-variants.{Ones, Zeros, Fourth, Fill, Sample}
-use Rattle.line.specs.Due.{dueAt}
-
--- f i, f (i + 1), .. : n of them
-unfoldable pub tabFrom : (ℕ → ℕ) → ℕ → ℕ → List ℕ
-tabFrom f i zero = []
-tabFrom f i (suc n) = f i ∷ tabFrom f (suc i) n
-
-abbrev pub tab : ℕ → (ℕ → ℕ) → List ℕ
-tab n f = tabFrom f 0 n
+use Rattle.line.specs.Offsets.{dueAt}
 
 -- "1440 words: 720 Y, 360 CB, 360 CR"
 abbrev pub activeLength : ℕ
@@ -43,7 +36,7 @@ sampleAt p place =
 
 -- the word that is written where this is due: "The writer sets low bits as shown"
 abbrev pub wordWhere : What → ℕ → ℕ
-wordWhere Ones sample = 1023
+wordWhere Ones sample = mostWord
 wordWhere Zeros sample = 0
 wordWhere (Fourth fvh) sample = fourthOf fvh
 wordWhere (Fill word) sample = word
@@ -66,10 +59,12 @@ cbsFrom active words = tab cLength (λ k. getD words (active + 4 * k) 0)
 abbrev pub crsFrom : ℕ → List ℕ → List ℕ
 crsFrom active words = tab cLength (λ k. getD words (active + (4 * k + 2)) 0)
 
+abbrev pub samplesFrom : ℕ → List ℕ → Samples
+samplesFrom active words = record { y = ysFrom active words; cb = cbsFrom active words; cr = crsFrom active words }
+
 unfoldable pub samplesOf : Due → List ℕ → Samples
-samplesOf d words =
-    record {
-      y = ysFrom (activeOffset (d .system)) words;
-      cb = cbsFrom (activeOffset (d .system)) words;
-      cr = crsFrom (activeOffset (d .system)) words;
-    }
+samplesOf d words = samplesFrom (activeOffset (d .system)) words
+
+-- the samples of an active part that a caller holds
+abbrev pub partSamples : List ℕ → Samples
+partSamples part = samplesFrom 0 part

@@ -1,22 +1,27 @@
 // What a line consists of: what is due at each of its offsets. Reader and writer share it.
 ghost use mathlib.Core.Path.{_≡_};
-ghost use Prim.Native.Nat.{_≤_};
-ghost use Rattle.line.specs.Due.{flag, dueOf, flagsOf, codeAt, fillAt, dueAt};
+ghost use mathlib.Core.Bool.{_||_};
+ghost use lib.Dec.{ltb};
+ghost use Rattle.line.specs.Offsets.{codeAt, fillAt, dueAt};
+ghost use Rattle.line.specs.Fault.{leastSample, mostSample};
 ghost use Rattle.line.specs.Lengths.{bufferRefusal};
+use refusal::Number;
 use refusal::Refusal;
-use system::System;
+use system::Due;
+use system::FillWords;
 
 // The samples of an active part: CB, Y, CR, Y repeated.
 pub const ACTIVE_LENGTH: usize = 1440;
 
-// What is due in a line: its system, its F and V, and fill at even and odd offsets. With V = 1 the active part is fill.
-pub struct Due {
-    pub system: System,
-    pub f: bool,
-    pub v: bool,
-    pub even: u16,
-    pub odd: u16,
-}
+// A sample is 4 to 1019.
+pub const LEAST_SAMPLE: u16 = 4;
+
+pub const MOST_SAMPLE: u16 = 1019;
+
+// The first word of a timing code is 1023, and 1020 to 1023 count as it; the second and third are 0, and 0 to 3 count as them.
+pub const LEAST_ONES: u16 = 1020;
+
+pub const MOST_ZEROS: u16 = 3;
 
 // What is due at one offset: a word of a timing code, fill, or a sample.
 pub enum What {
@@ -25,15 +30,6 @@ pub enum What {
     Fourth { fvh: u32 },
     Fill { word: u16 },
     Sample,
-}
-
-fn bit(flagged: bool) -> u32
-    ensures { λ r. ⌜ (r ≡ flag flagged) × (r ≤ 1) ⌝ }
-{
-    if flagged {
-        return 1;
-    }
-    0
 }
 
 // The k-th word of the timing code of F, V, H.
@@ -49,58 +45,41 @@ fn code_at(fvh: u32, k: usize) -> What
     What::Fourth { fvh }
 }
 
-impl Due {
-    // What is due in the line with this number.
-    pub fn of(system: System, line: u32) -> Due
-        ensures { λ r. ⌜ r ≡ dueOf system line ⌝ }
-    {
-        let f = system.f(line);
-        let v = system.v(line);
-        Due {
-            system,
-            f,
-            v,
-            even: 512,
-            odd: 64,
-        }
-    }
+// Whether a word is none of the samples 4 to 1019.
+pub fn reserved(word: u16) -> bool
+    ensures { λ r. ⌜ r ≡ (ltb word leastSample || ltb mostSample word) ⌝ }
+{
+    (word < LEAST_SAMPLE) | (MOST_SAMPLE < word)
+}
 
-    // F, V, H of the line's EAV, where H is 1, or of its SAV.
-    pub fn flags(self, h: bool) -> u32
-        ensures { λ r. ⌜ r ≡ flagsOf self h ⌝ }
-    {
-        4 * bit(self.f) + 2 * bit(self.v) + bit(h)
+fn fill_at(fill: FillWords, offset: usize) -> What
+    ensures { λ r. ⌜ r ≡ fillAt fill offset ⌝ }
+{
+    if offset % 2 == 0 {
+        return What::Fill { word: fill.even };
     }
+    What::Fill { word: fill.odd }
+}
 
-    fn fill_at(self, offset: usize) -> What
-        ensures { λ r. ⌜ r ≡ fillAt self offset ⌝ }
-    {
-        if offset % 2 == 0 {
-            return What::Fill { word: self.even };
-        }
-        What::Fill { word: self.odd }
+// What is due at an offset of a line.
+pub fn due_at(due: Due, offset: usize) -> What
+    ensures { λ r. ⌜ r ≡ dueAt due offset ⌝ }
+{
+    let system = due.system;
+    let sav = system.sav_offset();
+    if offset < 4 {
+        return code_at(due.flags(true), offset);
     }
-
-    // What is due at an offset.
-    pub fn at(self, offset: usize) -> What
-        ensures { λ r. ⌜ r ≡ dueAt self offset ⌝ }
-    {
-        let system = self.system;
-        let sav = system.sav_offset();
-        if offset < 4 {
-            return code_at(self.flags(true), offset);
-        }
-        if offset < sav {
-            return self.fill_at(offset);
-        }
-        if offset < sav + 4 {
-            return code_at(self.flags(false), offset - sav);
-        }
-        if self.v {
-            return self.fill_at(offset);
-        }
-        What::Sample
+    if offset < sav {
+        return fill_at(due.fill, offset);
     }
+    if offset < sav + 4 {
+        return code_at(due.flags(false), offset - sav);
+    }
+    if due.v {
+        return fill_at(due.fill, offset);
+    }
+    What::Sample
 }
 
 // What is wrong with the lengths of the sample buffers: 3 at the lowest place.
@@ -109,24 +88,21 @@ pub fn buffer_refusal(y: usize, cb: usize, cr: usize) -> Refusal
 {
     if y != 720 {
         return Refusal {
-            number: 3,
+            number: Number::WRONG_LENGTH,
             place: 1,
         };
     }
     if cb != 360 {
         return Refusal {
-            number: 3,
+            number: Number::WRONG_LENGTH,
             place: 2,
         };
     }
     if cr != 360 {
         return Refusal {
-            number: 3,
+            number: Number::WRONG_LENGTH,
             place: 3,
         };
     }
-    Refusal {
-        number: 0,
-        place: 0,
-    }
+    Refusal::NONE
 }

@@ -1,27 +1,31 @@
 // The crate serial.
-use cases::count;
+use cases::Numbers;
+use cases::after_words;
 use cases::number;
-use cases::put_number;
-use cases::put_place;
+use cases::put_numbers;
 use cases::put_words;
-use cases::take_words;
+use cases::taken_words;
 use serial::Answer;
 use serial::State;
 
 // The longest slice that is coded: a little over the limit of the coder.
 pub const LONGEST: usize = 65_540;
 
-fn put_state(answer: &mut [u8], at: usize, state: State) -> usize {
-    let at_last = put_number(answer, at, state.scrambled);
-    put_number(answer, at_last, state.last)
+// State::fresh.
+pub(crate) fn fresh(payload: &[u8]) -> Numbers {
+    if payload.len() != 0 {
+        return Numbers::none();
+    }
+    let state = State::fresh();
+    Numbers::one(state.scrambled).with(state.last)
 }
 
-// State::fresh.
-pub(crate) fn fresh(payload: &[u8], answer: &mut [u8]) -> usize {
-    if payload.len() != 0 {
-        return 0;
+// The state that the first numbers tell.
+fn state(payload: &[u8]) -> State {
+    State {
+        scrambled: number(payload, 0),
+        last: number(payload, 4),
     }
-    put_state(answer, 0, State::fresh())
 }
 
 fn called(is_decoding: bool, state: State, words: &[u16], out: &mut [u16]) -> Answer {
@@ -31,30 +35,24 @@ fn called(is_decoding: bool, state: State, words: &[u16], out: &mut [u16]) -> An
     serial::code(state, words, out)
 }
 
-fn put_coded(answer: &mut [u8], coded: Answer) -> usize {
-    let at_place = put_number(answer, 0, coded.number);
-    let at_state = put_place(answer, at_place, coded.place);
-    put_state(answer, at_state, coded.state)
+fn of_coded(coded: Answer) -> Numbers {
+    let state = coded.state;
+    Numbers::one(coded.number)
+        .with_place(coded.place)
+        .with(state.scrambled)
+        .with(state.last)
 }
 
 // serial::code or serial::decode, on slices of the lengths that the payload tells.
 fn code_words(
     is_decoding: bool,
-    payload: &[u8],
+    state: State,
     words: &mut [u16],
     out: &mut [u16],
     answer: &mut [u8],
 ) -> usize {
-    let at_out = take_words(payload, 16, words);
-    if take_words(payload, at_out, out) != payload.len() {
-        return 0;
-    }
-    let state = State {
-        scrambled: number(payload, 0),
-        last: number(payload, 4),
-    };
     let coded = called(is_decoding, state, words, out);
-    let put_out = put_coded(answer, coded);
+    let put_out = put_numbers(answer, of_coded(coded));
     put_words(answer, put_out, out)
 }
 
@@ -62,19 +60,15 @@ fn code_words(
 pub(crate) fn code(is_decoding: bool, payload: &[u8], answer: &mut [u8]) -> usize {
     let mut words = [0u16; LONGEST];
     let mut out = [0u16; LONGEST];
-    let word_count = count(payload, 8);
-    let out_count = count(payload, 12);
-    if LONGEST < word_count {
-        return 0;
-    }
-    if LONGEST < out_count {
+    let at_out = after_words(payload, LONGEST, 8, 16);
+    if after_words(payload, LONGEST, 12, at_out) != payload.len() {
         return 0;
     }
     code_words(
         is_decoding,
-        payload,
-        &mut words[0..word_count],
-        &mut out[0..out_count],
+        state(payload),
+        taken_words(payload, 8, 16, &mut words),
+        taken_words(payload, 12, at_out, &mut out),
         answer,
     )
 }

@@ -1,92 +1,119 @@
-// The crate line.
+// What is due: the crates system and line.
 use crate::systems::system_number;
+use cases::Numbers;
 use cases::number;
-use cases::put_number;
-use cases::put_refusal;
-use cases::put_truth;
 use cases::wide;
-use line::Due;
 use line::What;
+use system::Due;
+use system::FillWords;
+use system::Walk;
 
-fn put_due(answer: &mut [u8], due: Due) -> usize {
+fn of_due(due: Due) -> Numbers {
     let system = due.system;
-    let at_f = put_number(answer, 0, system_number(system));
-    let at_v = put_truth(answer, at_f, due.f);
-    let at_even = put_truth(answer, at_v, due.v);
-    let at_odd = put_number(answer, at_even, due.even as u32);
-    put_number(answer, at_odd, due.odd as u32)
+    Numbers::one(system_number(system))
+        .with_truth(due.f)
+        .with_truth(due.v)
+        .with(due.fill.even as u32)
+        .with(due.fill.odd as u32)
 }
 
-fn put_pair(answer: &mut [u8], what: u32, value: u32) -> usize {
-    let at_value = put_number(answer, 0, what);
-    put_number(answer, at_value, value)
+fn pair(what: u32, value: u32) -> Numbers {
+    Numbers::one(what).with(value)
 }
 
 // What is due, and the flags or the word that come with it.
-fn put_what(answer: &mut [u8], what: What) -> usize {
+fn of_what(what: What) -> Numbers {
     match what {
-        What::Ones => put_pair(answer, 0, 0),
-        What::Zeros => put_pair(answer, 1, 0),
-        What::Fourth { fvh } => put_pair(answer, 2, fvh),
-        What::Fill { word } => put_pair(answer, 3, word as u32),
-        What::Sample => put_pair(answer, 4, 0),
+        What::Ones => pair(0, 0),
+        What::Zeros => pair(1, 0),
+        What::Fourth { fvh } => pair(2, fvh),
+        What::Fill { word } => pair(3, word as u32),
+        What::Sample => pair(4, 0),
     }
 }
 
-fn low_word(number: u32) -> u16 {
+pub(crate) fn low_word(number: u32) -> u16 {
     (number % 65536) as u16
 }
 
-// What is due, as the first five numbers tell it.
-fn due(payload: &[u8]) -> Due {
+// What is due, as five numbers tell it.
+fn told(system: u32, f: u32, v: u32, even: u32, odd: u32) -> Due {
     Due {
-        system: system::system_of(number(payload, 0)),
-        f: number(payload, 4) == 1,
-        v: number(payload, 8) == 1,
-        even: low_word(number(payload, 12)),
-        odd: low_word(number(payload, 16)),
+        system: system::system_of(system),
+        f: f == 1,
+        v: v == 1,
+        fill: FillWords {
+            even: low_word(even),
+            odd: low_word(odd),
+        },
     }
 }
 
-fn place(payload: &[u8], at: usize) -> usize {
+// What is due, as the first five numbers tell it.
+pub(crate) fn due(payload: &[u8]) -> Due {
+    told(
+        number(payload, 0),
+        number(payload, 4),
+        number(payload, 8),
+        number(payload, 12),
+        number(payload, 16),
+    )
+}
+
+// What is due, as the five numbers behind a walk tell it.
+pub(crate) fn due_behind(payload: &[u8]) -> Due {
+    told(
+        number(payload, 16),
+        number(payload, 20),
+        number(payload, 24),
+        number(payload, 28),
+        number(payload, 32),
+    )
+}
+
+pub(crate) fn place(payload: &[u8], at: usize) -> usize {
     wide(payload, at) as usize
 }
 
 // Due::of.
-pub(crate) fn of(payload: &[u8], answer: &mut [u8]) -> usize {
-    if payload.len() != 8 {
-        return 0;
-    }
+fn of(payload: &[u8]) -> Numbers {
     let system = system::system_of(number(payload, 0));
-    put_due(answer, Due::of(system, number(payload, 4)))
+    of_due(Due::of(system, number(payload, 4)))
 }
 
 // Due::flags.
-pub(crate) fn flags(payload: &[u8], answer: &mut [u8]) -> usize {
+fn flags(payload: &[u8]) -> Numbers {
     let due: Due = due(payload);
-    if payload.len() != 24 {
-        return 0;
-    }
-    put_number(answer, 0, due.flags(number(payload, 20) == 1))
+    Numbers::one(due.flags(number(payload, 20) == 1))
 }
 
-// Due::at.
-pub(crate) fn at(payload: &[u8], answer: &mut [u8]) -> usize {
+// line::due_at.
+fn at(payload: &[u8]) -> Numbers {
     let due: Due = due(payload);
-    if payload.len() != 28 {
-        return 0;
-    }
-    put_what(answer, due.at(place(payload, 20)))
+    of_what(line::due_at(due, place(payload, 20)))
 }
 
 // line::buffer_refusal.
-pub(crate) fn buffer_refusal(payload: &[u8], answer: &mut [u8]) -> usize {
-    if payload.len() != 24 {
-        return 0;
+fn buffer_refusal(payload: &[u8]) -> Numbers {
+    Numbers::of_refusal(line::buffer_refusal(
+        place(payload, 0),
+        place(payload, 8),
+        place(payload, 16),
+    ))
+}
+
+// Walk::due.
+pub(crate) fn at_walk(walk: Walk, payload: &[u8]) -> Numbers {
+    of_due(walk.due(low_word(number(payload, 16))))
+}
+
+pub(crate) fn answered(kind: u32, payload: &[u8]) -> Numbers {
+    match kind {
+        30 => of(payload),
+        31 => flags(payload),
+        32 => at(payload),
+        33 => buffer_refusal(payload),
+        35 => Numbers::none().with_truth(line::reserved(low_word(number(payload, 0)))),
+        _ => Numbers::none(),
     }
-    put_refusal(
-        answer,
-        0,
-        line::buffer_refusal(place(payload, 0), place(payload, 8), place(payload, 16)),
-    )
 }

@@ -1,59 +1,70 @@
-// The crate reader: judging a line, and its active part; and judging as C calls it.
+// The crate reader: judging a line, and its active part; judging as C calls it; and the search for a word over 1023.
 use cases::MOST_BYTES;
 use cases::MOST_WORDS;
-use cases::count;
-use cases::put_judgement;
-use cases::put_number;
-use cases::put_place;
+use cases::Numbers;
+use cases::after_bytes;
+use cases::after_words;
+use cases::part;
+use cases::put_numbers;
 use cases::put_words;
-use cases::take_words;
+use cases::taken_words;
 use cases::walk;
 use system::Walk;
 
-fn put_active(answer: &mut [u8], walk: Walk, words: &[u16]) -> usize {
+fn put_active(answer: &mut [u8], walk: Walk, words: &mut [u16]) -> usize {
     let part = reader::active(walk, words);
-    let at_part = put_place(answer, 0, part.len());
+    let at_part = put_numbers(answer, Numbers::none().with_place(part.len()));
     put_words(answer, at_part, part)
 }
 
-// On words as many as the payload tells.
-fn with_taken(is_active: bool, payload: &[u8], words: &mut [u16], answer: &mut [u8]) -> usize {
-    let walk: Walk = walk(payload, 0);
-    if take_words(payload, 20, words) != payload.len() {
-        return 0;
-    }
-    if is_active {
-        return put_active(answer, walk, words);
-    }
-    put_judgement(answer, reader::judge(walk, words))
+fn judged(walk: Walk, words: &mut [u16]) -> Numbers {
+    Numbers::of_judgement(reader::judge(walk, words))
 }
 
-// reader::active, or reader::judge.
-pub(crate) fn with_words(is_active: bool, payload: &[u8], answer: &mut [u8]) -> usize {
+fn over(words: &mut [u16]) -> Numbers {
+    Numbers::of_refusal(words::first_over(words))
+}
+
+// words::first_over.
+pub(crate) fn first_over(payload: &[u8]) -> Numbers {
     let mut words = [0u16; MOST_WORDS];
-    let word_count = count(payload, 16);
-    if MOST_WORDS < word_count {
+    if after_words(payload, MOST_WORDS, 0, 4) != payload.len() {
+        return Numbers::none();
+    }
+    over(taken_words(payload, 0, 4, &mut words))
+}
+
+// reader::judge.
+pub(crate) fn judge(payload: &[u8]) -> Numbers {
+    let mut words = [0u16; MOST_WORDS];
+    if after_words(payload, MOST_WORDS, 16, 20) != payload.len() {
+        return Numbers::none();
+    }
+    judged(walk(payload, 0), taken_words(payload, 16, 20, &mut words))
+}
+
+// reader::active.
+pub(crate) fn active(payload: &[u8], answer: &mut [u8]) -> usize {
+    let mut words = [0u16; MOST_WORDS];
+    if after_words(payload, MOST_WORDS, 16, 20) != payload.len() {
         return 0;
     }
-    with_taken(is_active, payload, &mut words[0..word_count], answer)
+    put_active(
+        answer,
+        walk(payload, 0),
+        taken_words(payload, 16, 20, &mut words),
+    )
+}
+
+fn judged_in_c(walk: Walk, bytes: &[u8]) -> u32 {
+    capture::fiskrogn_judge(walk.system, walk.line, walk.lines, walk.repairs, bytes)
 }
 
 // capture::fiskrogn_judge.
-pub(crate) fn capture_judge(payload: &[u8], answer: &mut [u8]) -> usize {
-    let byte_count = count(payload, 16);
-    let walk: Walk = walk(payload, 0);
-    if MOST_BYTES < byte_count {
-        return 0;
+pub(crate) fn capture_judge(payload: &[u8]) -> Numbers {
+    let end = after_bytes(payload, MOST_BYTES, 16, 20);
+    if payload.len() != end {
+        return Numbers::none();
     }
-    if payload.len() != 20 + byte_count {
-        return 0;
-    }
-    let judged = capture::fiskrogn_judge(
-        walk.system,
-        walk.line,
-        walk.lines,
-        walk.repairs,
-        &payload[20..],
-    );
-    put_number(answer, 0, judged)
+    Numbers::one(judged_in_c(walk(payload, 0), part(payload, 20, end)))
 }

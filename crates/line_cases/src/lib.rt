@@ -2,39 +2,68 @@
 mod coding;
 mod correction;
 mod dues;
+mod joining;
 mod judging;
 mod lines;
 mod systems;
 mod walks;
 
+use cases::Numbers;
+use cases::number;
+use cases::put_numbers;
+use cases::walk;
 pub use coding::LONGEST;
 
-// Lines and words.
-fn answer_line(kind: u32, payload: &[u8], answer: &mut [u8]) -> usize {
+// The bytes of what each kind of numbers brings.
+fn size_of(kind: u32) -> usize {
     match kind {
-        3 => lines::with_four(kind, 16, payload, answer),
-        4 => judging::with_words(true, payload, answer),
-        5 => lines::with_four(kind, 8, payload, answer),
-        6 => coding::code(false, payload, answer),
-        7 => coding::code(true, payload, answer),
-        9 => judging::capture_judge(payload, answer),
-        42 => judging::with_words(false, payload, answer),
-        43 => lines::with_four(kind, 0, payload, answer),
-        _ => 0,
+        2 | 11 | 21 | 24 | 28 | 30 => 8,
+        12 | 25 | 26 | 36 => 16,
+        34 => 20,
+        31 | 33 | 40 => 24,
+        32 => 28,
+        29 => 32,
+        27 | 41 => 52,
+        _ => 4,
+    }
+}
+
+// The calls on numbers.
+fn on_numbers(kind: u32, payload: &[u8]) -> Numbers {
+    if payload.len() != size_of(kind) {
+        return Numbers::none();
+    }
+    let first = number(payload, 0);
+    let second = number(payload, 4);
+    match kind {
+        2 | 20..=24 | 28 => systems::answered(kind, first, second),
+        1..=12 => correction::answered(kind, first, second, payload),
+        30..=33 | 35 => dues::answered(kind, payload),
+        36 => joining::answered(first, second, payload),
+        _ => walks::answered(kind, walk(payload, 0), payload),
+    }
+}
+
+// The calls whose answers are numbers only: none where the case is none.
+fn answered(kind: u32, payload: &[u8]) -> Numbers {
+    match kind {
+        9 => judging::capture_judge(payload),
+        37 => judging::first_over(payload),
+        42 => judging::judge(payload),
+        50 => coding::fresh(payload),
+        _ => on_numbers(kind, payload),
     }
 }
 
 // Answers a case, and tells how many bytes the answer takes: 0 where the case is none, and more than there is room for where it does not fit.
 pub fn answer_case(kind: u32, payload: &[u8], answer: &mut [u8]) -> usize {
     match kind {
-        1 | 8 | 10..=12 => correction::answer_case(kind, payload, answer),
-        2 | 20..=24 => systems::answer_case(kind, payload, answer),
-        25..=27 | 40 | 41 => walks::answer_case(kind, payload, answer),
-        30 => dues::of(payload, answer),
-        31 => dues::flags(payload, answer),
-        32 => dues::at(payload, answer),
-        33 => dues::buffer_refusal(payload, answer),
-        50 => coding::fresh(payload, answer),
-        _ => answer_line(kind, payload, answer),
+        3 => lines::with_four(kind, 16, payload, answer),
+        4 => judging::active(payload, answer),
+        5 => lines::with_four(kind, 8, payload, answer),
+        6 | 7 => coding::code(kind == 7, payload, answer),
+        43 => lines::with_four(kind, 20, payload, answer),
+        44 => lines::with_part(payload, answer),
+        _ => put_numbers(answer, answered(kind, payload)),
     }
 }

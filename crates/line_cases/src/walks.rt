@@ -1,14 +1,13 @@
-// The crates system and reader: walks, what they count, and the answers to a line.
+// The crate system: walks, what they count, and the answers to a line.
+use crate::dues::at_walk;
+use crate::dues::due_behind;
+use crate::dues::place;
+use cases::Numbers;
 use cases::count;
 use cases::number;
-use cases::put_judgement;
-use cases::put_number;
-use cases::put_refusal;
-use cases::put_walk;
 use cases::report;
-use cases::walk;
-use reader::Judgement;
 use refusal::Refusal;
+use system::Judgement;
 use system::Walk;
 
 // The refusal behind a walk.
@@ -19,26 +18,40 @@ fn refusal(payload: &[u8]) -> Refusal {
     }
 }
 
-// The bytes of what each kind brings.
-fn size_of(kind: u32) -> usize {
-    match kind {
-        25 | 26 => 16,
-        40 => 24,
-        _ => 32,
-    }
+// system::repairs.
+fn repairs(payload: &[u8]) -> Numbers {
+    Numbers::one(system::repairs(report(payload, 0)))
 }
 
-pub(crate) fn answer_case(kind: u32, payload: &[u8], answer: &mut [u8]) -> usize {
-    let walk: Walk = walk(payload, 0);
-    if payload.len() != size_of(kind) {
-        return 0;
-    }
+// Walk::standing.
+fn standing(walk: Walk, payload: &[u8]) -> Numbers {
+    Numbers::of_refusal(walk.standing(place(payload, 16), place(payload, 24)))
+}
+
+// Walk::moved.
+fn moved(walk: Walk, payload: &[u8]) -> Numbers {
+    Numbers::none().with_walk(walk.moved(due_behind(payload), report(payload, 36)))
+}
+
+// Judgement::refused.
+fn refused(walk: Walk, payload: &[u8]) -> Numbers {
+    Numbers::of_judgement(Judgement::refused(walk, refusal(payload)))
+}
+
+// Judgement::accepted.
+fn accepted(walk: Walk, payload: &[u8]) -> Numbers {
+    Numbers::of_judgement(Judgement::accepted(walk, due_behind(payload), report(payload, 36)))
+}
+
+pub(crate) fn answered(kind: u32, walk: Walk, payload: &[u8]) -> Numbers {
     match kind {
-        25 => put_number(answer, 0, system::repairs(report(payload, 0))),
-        26 => put_refusal(answer, 0, walk.refusal()),
-        27 => put_walk(answer, 0, walk.stepped(report(payload, 16))),
-        40 => put_judgement(answer, Judgement::refused(walk, refusal(payload))),
-        41 => put_judgement(answer, Judgement::accepted(walk, report(payload, 16))),
-        _ => 0,
+        25 => repairs(payload),
+        26 => Numbers::of_refusal(walk.refusal()),
+        27 => moved(walk, payload),
+        29 => standing(walk, payload),
+        34 => at_walk(walk, payload),
+        40 => refused(walk, payload),
+        41 => accepted(walk, payload),
+        _ => Numbers::none(),
     }
 }

@@ -2,36 +2,37 @@
 -- V = 0 has samples of ten bits. Assumes nothing.
 use Prim.Native.Nat.{ℕ, _+_, _-_, _*_, _<_, _≤_}
 use mathlib.Core.Path.{_≡_, refl, sym, ap, ap₂, _∙_}
-use mathlib.Core.Bool.{Bool, true, false, cond, not, _&&_}
+use mathlib.Core.Bool.{Bool, true, false, cond, _&&_}
 use mathlib.Core.List.{List}
 use native.Mathlib.Omega.{arith}
 use lib.Dec.{eqb}
 use lib.ListN.{length, getD, take, drop, length-drop}
-use lib.Seq.{length-take-le, getD-take, getD-drop, ext-getD}
+use lib.Seq.{ext-getD, length-take-le, getD-take, getD-drop}
 use borrow.Author.Tests.{eq-eqb, ne-eqb}
 use Rattle.refusal.specs.declared.Refusal.{Refusal}
-use Rattle.refusal.specs.Answer.{none, refuse, orElse}
+use Rattle.refusal.specs.Numbers.{wrongLength}
+use Rattle.refusal.specs.Answer.{none}
 use Rattle.refusal.proofs.Cases.{not-true}
-use Rattle.refusal.proofs.Firsts.{orElse-accepted, orElse-refused}
-use Rattle.system.specs.declared.Walk.{Walk}
+use Rattle.refusal.proofs.Firsts.{same-number}
+use Rattle.words.specs.Words.{mostWord}
+use Rattle.words.specs.Bytes.{wordOfBytes, wordsOf}
+use Rattle.words.proofs.Bytes.{words-length, word-at}
+use Rattle.system.specs.declared.System.{System}
+use Rattle.system.specs.declared.walk.Walk.{Walk}
+use Rattle.system.specs.declared.walk.Judgement.{Judgement}
 use Rattle.system.specs.Figures.{lineLength, activeOffset, systemOf}
-use Rattle.system.specs.Walk.{walkRefusal}
-use Rattle.system.proofs.Laws.{line-is-parts}
-use Rattle.line.specs.Due.{dueOf}
-use Rattle.line.specs.Fault.{wordRefusal}
+use Rattle.system.specs.Walk.{lineWords, lineBytes, standingRefusal, dueIn}
+use Rattle.system.specs.Judgement.{refusedAt}
+use Rattle.system.proofs.Laws.{line-is-parts, due-system}
 use Rattle.line.specs.Samples.{activeLength}
-use Rattle.line.proofs.Places.{taken-in-place}
 use Rattle.line.proofs.Images.{accepted-fit}
-use Rattle.reader.specs.declared.Judgement.{Judgement}
-use Rattle.reader.specs.Judge.{dueIn, reportOf, refusedAt, judgementOf}
-use Rattle.reader.proofs.Judged.{accepted}
-use Rattle.lent.specs.Bytes.{wordOfBytes, wordsOf, bytesRefusal, judgedBytes}
-use Rattle.lent.proofs.Bytes.{words-length, word-at}
-use Rattle.lent.proofs.Theorems.{bytes-refused-as-words, bytes-number}
+use Rattle.line.proofs.Places.{taken-in-place}
+use Rattle.reader.specs.Judge.{lineRefusal, lineJudged}
+use Rattle.reader.proofs.Judged.{line-standing, line-others, accepted, judged-refused, answered}
+use Rattle.bytewise.specs.Bytes.{bytesRefusal, judgedBytes}
 use Rattle.v210.specs.Row.{rowLength, packedOf, packRefusal, rowAfter}
 use Rattle.v210.proofs.Theorems.{packed-accepted, pack-accepted-fills}
-use Rattle.programme.specs.Record.{takesRow}
-use Rattle.programme.specs.Extract.{extractRefusal, extractedOf, rowOfLine, rowAfterLine}
+use Rattle.programme.specs.Extract.{roomRefusal, extractRefusal, extractedOf, givesRow, rowOfLine, rowAfterLine}
 
 -- ---- A part of bytes from a word on has the words of that part.
 module _ (bytes : List ℕ) (a n : ℕ) (size : length bytes ≡ 2 * (a + n)) where
@@ -67,51 +68,23 @@ module _ (bytes : List ℕ) (a n : ℕ) (size : length bytes ≡ 2 * (a + n)) wh
 
 -- ---- Words of ten bits, as many as an active part has, are packed.
 pub words-packed : (bytes words row : List ℕ) → words ≡ wordsOf bytes → length bytes ≡ 2 * activeLength → length row ≡ rowLength
-    → ((i : ℕ) → i < activeLength → getD (wordsOf bytes) i 0 ≤ 1023) → rowAfter words row ≡ packedOf (wordsOf bytes)
+    → ((i : ℕ) → i < activeLength → getD (wordsOf bytes) i 0 ≤ mostWord) → rowAfter words row ≡ packedOf (wordsOf bytes)
 words-packed bytes words row is size room small =
     let taken = packed-accepted (wordsOf bytes) (words-length bytes activeLength size) small .0 in
     ap (λ (l : List ℕ). rowAfter l row) is
     ∙ pack-accepted-fills (wordsOf bytes) row
-    (ap (λ (r : Refusal). r .number) (ap (packRefusal (wordsOf bytes)) room ∙ taken))
+    (same-number (ap (packRefusal (wordsOf bytes)) room ∙ taken))
 
--- ---- The refusal that has its turn.
-module _ (w : Walk) (bytes : List ℕ) (room : ℕ) where
-  abbrev size-refusal : Refusal
-  size-refusal = refuse (not (eqb (length bytes) (2 * lineLength (systemOf (w .system))))) 3 0
+-- ---- With room for a row, extracting refuses and answers as the byte judge does.
+module _ (w : Walk) (bytes : List ℕ) (room : ℕ) (has-room : room ≡ rowLength) where
+  no-refusal : roomRefusal room ≡ none
+  no-refusal = simp (eq-eqb _ _ has-room)
 
-  abbrev rest : Refusal
-  rest = orElse (wordRefusal (dueIn w (wordsOf bytes)) (wordsOf bytes)) none
+  pub extract-measured : extractRefusal w bytes room ≡ bytesRefusal w bytes
+  extract-measured = ap (λ (r : Refusal). lineRefusal (length bytes) (lineBytes w) r w (wordsOf bytes)) no-refusal
 
-  pub extract-walk : (walkRefusal w .number ≡ 0 → ⊥) → extractRefusal w bytes room ≡ walkRefusal w
-  unfolding extractRefusal
-  extract-walk n = orElse-refused (walkRefusal w) _ n
-
-  -- with room for a row, the byte judge's
-  pub extract-measured : room ≡ rowLength → extractRefusal w bytes room ≡ bytesRefusal w bytes
-  unfolding extractRefusal bytesRefusal
-  extract-measured e =
-      ap (λ (t : Bool). orElse (walkRefusal w) (orElse size-refusal (orElse (refuse (not t) 3 1) rest))) (eq-eqb room rowLength e)
-      ∙ ap (λ (r : Refusal). orElse (walkRefusal w) (orElse size-refusal r)) (orElse-accepted none rest refl)
-
-  module _ (stands : walkRefusal w .number ≡ 0) where
-    pub extract-count : (length bytes ≡ 2 * lineLength (systemOf (w .system)) → ⊥) → extractRefusal w bytes room ≡ record { number = 3; place = 0 }
-    unfolding extractRefusal orElse
-    extract-count n = orElse-accepted (walkRefusal w) _ stands ∙ simp (ne-eqb _ _ n)
-
-    pub extract-room : length bytes ≡ 2 * lineLength (systemOf (w .system)) → (room ≡ rowLength → ⊥)
-        → extractRefusal w bytes room ≡ record { number = 3; place = 1 }
-    unfolding extractRefusal orElse
-    extract-room size n = orElse-accepted (walkRefusal w) _ stands ∙ simp (eq-eqb _ _ size, ne-eqb _ _ n)
-
-  -- ---- The whole answer.
-  pub extracted-refused : (r : Refusal) → extractRefusal w bytes room ≡ r → (r .number ≡ 0 → ⊥) → extractedOf w bytes room ≡ refusedAt w r
-  unfolding extractedOf judgementOf
-  extracted-refused r e n = rw e (simp (ne-eqb _ _ n))
-
-  pub extracted-judged : room ≡ rowLength → extractedOf w bytes room ≡ judgedBytes w bytes
-  unfolding extractedOf judgedBytes
-  extracted-judged e =
-      ap (λ (r : Refusal). judgementOf r w (reportOf (dueIn w (wordsOf bytes)) (wordsOf bytes))) (extract-measured e)
+  pub extracted-judged : extractedOf w bytes room ≡ judgedBytes w bytes
+  extracted-judged = ap (λ (r : Refusal). lineJudged (length bytes) (lineBytes w) r w (wordsOf bytes)) no-refusal
 
 -- ---- The row afterwards.
 and-false : (t : Bool) → (t && false) ≡ false
@@ -121,15 +94,15 @@ and-false false = refl
 module _ (w : Walk) (bytes before : List ℕ) where
   pub row-refused : (extractRefusal w bytes (length before) .number ≡ 0 → ⊥) → rowAfterLine w bytes before ≡ before
   unfolding rowAfterLine
-  row-refused n = ap (λ (t : Bool). cond (t && takesRow w) (rowOfLine w bytes) before) (ne-eqb _ _ n)
+  row-refused n = ap (λ (t : Bool). cond (t && givesRow w bytes) (rowOfLine w bytes) before) (ne-eqb _ _ n)
 
-  pub row-blank : takesRow w ≡ false → rowAfterLine w bytes before ≡ before
+  pub row-blank : givesRow w bytes ≡ false → rowAfterLine w bytes before ≡ before
   unfolding rowAfterLine
   row-blank v =
       ap (λ (t : Bool). cond (eqb (extractRefusal w bytes (length before) .number) 0 && t) (rowOfLine w bytes) before) v
       ∙ ap (λ (t : Bool). cond t (rowOfLine w bytes) before) (and-false (eqb (extractRefusal w bytes (length before) .number) 0))
 
-  pub row-given : extractRefusal w bytes (length before) .number ≡ 0 → takesRow w ≡ true → rowAfterLine w bytes before ≡ rowOfLine w bytes
+  pub row-given : extractRefusal w bytes (length before) .number ≡ 0 → givesRow w bytes ≡ true → rowAfterLine w bytes before ≡ rowOfLine w bytes
   unfolding rowAfterLine
   row-given z v = ap₂ (λ (t u : Bool). cond (t && u) (rowOfLine w bytes) before) (eq-eqb _ _ z) v
 
@@ -137,31 +110,47 @@ module _ (w : Walk) (bytes before : List ℕ) where
   pub refused-result : (r : Refusal) (j : Judgement) → extractRefusal w bytes (length before) ≡ r → (r .number ≡ 0 → ⊥) → j ≡ refusedAt w r
       → (j ≡ extractedOf w bytes (length before)) × (before ≡ rowAfterLine w bytes before)
   refused-result r j e n is = (
-    is ∙ sym (extracted-refused w bytes (length before) r e n),
-    sym (row-refused (λ z. n (sym (ap (λ (a : Refusal). a .number) e) ∙ z))),
+    is ∙ sym (judged-refused (length bytes) (lineBytes w) (roomRefusal (length before)) w (wordsOf bytes) r e n),
+    sym (row-refused (λ z. n (sym (same-number e) ∙ z))),
   )
+
+  -- the line refused before its words are looked at, or for the row's length
+  pub standing-result : (j : Judgement) → (standingRefusal w (length bytes) (lineBytes w) .number ≡ 0 → ⊥) → j ≡ refusedAt w (standingRefusal w (length bytes) (lineBytes w))
+      → (j ≡ extractedOf w bytes (length before)) × (before ≡ rowAfterLine w bytes before)
+  standing-result j n is = refused-result _ j (line-standing (length bytes) (lineBytes w) (roomRefusal (length before)) w (wordsOf bytes) n) n is
+
+  pub room-result : (j : Judgement) → standingRefusal w (length bytes) (lineBytes w) .number ≡ 0 → (length before ≡ rowLength → ⊥)
+      → j ≡ refusedAt w (record { number = wrongLength; place = 1 }) → (j ≡ extractedOf w bytes (length before)) × (before ≡ rowAfterLine w bytes before)
+  room-result j stands n is =
+      let short : roomRefusal (length before) ≡ record { number = wrongLength; place = 1 } = simp (ne-eqb _ _ n) in
+      refused-result _ j
+      (line-others (length bytes) (lineBytes w) (roomRefusal (length before)) w (wordsOf bytes) stands (λ z. never (sym (same-number short) ∙ z)) ∙ short)
+      never is
+    where
+      never : _≡_ {A = ℕ} wrongLength 0 → ⊥
+      never q = omega arith
 
   -- ---- With room for a row, what the byte judge answers is the answer.
   module _ (room : length before ≡ rowLength) (j : Judgement) (is : j ≡ judgedBytes w bytes) where
     pub answer-number : j .number ≡ bytesRefusal w bytes .number
-    answer-number = ap (λ (i : Judgement). i .number) is ∙ ap (λ (r : Refusal). r .number) (bytes-number w bytes)
+    answer-number = answered (length bytes) (lineBytes w) none w (wordsOf bytes) j is
 
     extract-number : extractRefusal w bytes (length before) .number ≡ j .number
-    extract-number = ap (λ (r : Refusal). r .number) (extract-measured w bytes (length before) room) ∙ sym answer-number
+    extract-number = same-number (extract-measured w bytes (length before) room) ∙ sym answer-number
 
     pub judge-refused-result : (j .number ≡ 0 → ⊥) → (j ≡ extractedOf w bytes (length before)) × (before ≡ rowAfterLine w bytes before)
     judge-refused-result n = (is ∙ sym (extracted-judged w bytes (length before) room), sym (row-refused (λ z. n (sym extract-number ∙ z))))
 
-    pub blank-result : takesRow w ≡ false → (j ≡ extractedOf w bytes (length before)) × (before ≡ rowAfterLine w bytes before)
+    pub blank-result : givesRow w bytes ≡ false → (j ≡ extractedOf w bytes (length before)) × (before ≡ rowAfterLine w bytes before)
     blank-result v = (is ∙ sym (extracted-judged w bytes (length before) room), sym (row-blank v))
 
-    pub given-result : j .number ≡ 0 → takesRow w ≡ true → (row : List ℕ) → row ≡ rowOfLine w bytes
+    pub given-result : j .number ≡ 0 → givesRow w bytes ≡ true → (row : List ℕ) → row ≡ rowOfLine w bytes
         → (j ≡ extractedOf w bytes (length before)) × (row ≡ rowAfterLine w bytes before)
     given-result z v row e =
         (is ∙ sym (extracted-judged w bytes (length before) room), e ∙ sym (row-given (extract-number ∙ z) v))
 
 -- ---- An accepted line of V = 0: its active part, as the call slices it.
-module _ (w : Walk) (bytes : List ℕ) (size : length bytes ≡ 2 * lineLength (systemOf (w .system))) where
+module _ (w : Walk) (bytes : List ℕ) (size : length bytes ≡ lineBytes w) where
   parts : length bytes ≡ 2 * (activeOffset (systemOf (w .system)) + activeLength)
   parts = omega (arith, size, line-is-parts (systemOf (w .system)))
 
@@ -169,35 +158,37 @@ module _ (w : Walk) (bytes : List ℕ) (size : length bytes ≡ 2 * lineLength (
   active = take (2 * activeLength) (drop (2 * activeOffset (systemOf (w .system))) bytes)
 
   -- every word of it has ten bits
-  small-words : takesRow w ≡ true → bytesRefusal w bytes .number ≡ 0 → (k : ℕ) → k < activeLength
-      → getD (wordsOf bytes) (activeOffset (systemOf (w .system)) + k) 0 ≤ 1023
-  unfolding takesRow dueIn dueOf
+  small-words : givesRow w bytes ≡ true → bytesRefusal w bytes .number ≡ 0 → (k : ℕ) → k < activeLength
+      → getD (wordsOf bytes) (activeOffset (systemOf (w .system)) + k) 0 ≤ mostWord
+  unfolding givesRow
   small-words v z k l =
       let words = wordsOf bytes in
-      let a = accepted none w words (sym (ap (λ (r : Refusal). r .number) (bytes-refused-as-words w bytes _ size)) ∙ z) in
-      let fit = accepted-fit (dueIn w words) words (a .size) (a .well) in
-      let inside = fit .range (not-true _ v) k l .1 in
-      omega (arith, inside, taken-in-place (dueIn w words) words k l)
+      let system = due-system w (getD words 3 0) in
+      let long = words-length bytes (lineWords w) size ∙ ap lineLength (sym system) in
+      let well = accepted (length bytes) (lineBytes w) none w words z .well in
+      let inside = accepted-fit (dueIn w words) words long well .range (not-true _ v) k l .1 in
+      let at = taken-in-place (dueIn w words) words k l ∙ ap (λ (s : System). getD words (activeOffset s + k) 0) system in
+      omega (arith, inside, at)
 
-  module _ (n : ℕ) (is : n ≡ lineLength (systemOf (w .system))) where
-    sliced : take (2 * n - (2 * n - 2 * activeLength)) (drop (2 * n - 2 * activeLength) bytes) ≡ active
+  module _ (n : ℕ) (is : n ≡ lineBytes w) where
+    sliced : take (n - (n - 2 * activeLength)) (drop (n - 2 * activeLength) bytes) ≡ active
     sliced =
         let whole = line-is-parts (systemOf (w .system)) in
-        let count : 2 * n - (2 * n - 2 * activeLength) ≡ 2 * activeLength = omega (arith, is, whole) in
-        let start : 2 * n - 2 * activeLength ≡ 2 * activeOffset (systemOf (w .system)) = omega (arith, is, whole) in
+        let count : n - (n - 2 * activeLength) ≡ 2 * activeLength = omega (arith, is, whole) in
+        let start : n - 2 * activeLength ≡ 2 * activeOffset (systemOf (w .system)) = omega (arith, is, whole) in
         ap₂ (λ (k m : ℕ). take k (drop m bytes)) count start
 
-    pub sliced-length : length (take (2 * n - (2 * n - 2 * activeLength)) (drop (2 * n - 2 * activeLength) bytes)) ≡ 2 * activeLength
+    pub sliced-length : length (take (n - (n - 2 * activeLength)) (drop (n - 2 * activeLength) bytes)) ≡ 2 * activeLength
     sliced-length = ap length sliced ∙ part-length bytes (activeOffset (systemOf (w .system))) activeLength parts
 
-    pub sliced-row : packedOf (wordsOf (take (2 * n - (2 * n - 2 * activeLength)) (drop (2 * n - 2 * activeLength) bytes))) ≡ rowOfLine w bytes
+    pub sliced-row : packedOf (wordsOf (take (n - (n - 2 * activeLength)) (drop (n - 2 * activeLength) bytes))) ≡ rowOfLine w bytes
     unfolding rowOfLine
     sliced-row =
         ap (λ (l : List ℕ). packedOf (wordsOf l)) sliced
         ∙ ap packedOf (part-words bytes (activeOffset (systemOf (w .system))) activeLength parts)
 
-    pub sliced-small : takesRow w ≡ true → bytesRefusal w bytes .number ≡ 0 → (k : ℕ) → k < activeLength
-        → getD (wordsOf (take (2 * n - (2 * n - 2 * activeLength)) (drop (2 * n - 2 * activeLength) bytes))) k 0 ≤ 1023
+    pub sliced-small : givesRow w bytes ≡ true → bytesRefusal w bytes .number ≡ 0 → (k : ℕ) → k < activeLength
+        → getD (wordsOf (take (n - (n - 2 * activeLength)) (drop (n - 2 * activeLength) bytes))) k 0 ≤ mostWord
     sliced-small v z k l =
         let a = activeOffset (systemOf (w .system)) in
         let same = ap wordsOf sliced ∙ part-words bytes a activeLength parts in

@@ -6,7 +6,7 @@ use native.Mathlib.Omega.{arith}
 use lib.Dec.{ltb, eqb}
 use borrow.Author.Tests.{ltb-true, ltb-false, lt-ltb, le-ltb, eqb-true, eq-eqb, ne-eqb}
 use Rattle.refusal.proofs.Cases.{by-cond, by-test, and-true}
-use Rattle.system.specs.declared.Walk.{Walk}
+use Rattle.system.specs.declared.walk.Walk.{Walk}
 use Rattle.system.specs.Figures.{lineCount, systemOf}
 use Rattle.system.specs.Walk.{mostLines}
 use Rattle.programme.specs.Record.{endsPiece, framesLines, pieceLines}

@@ -2,16 +2,16 @@
 -- call `extract_next` is its step.
 use Prim.Native.Nat.{ℕ}
 use mathlib.Core.List.{List, [], _∷_}
-use mathlib.Core.Bool.{Bool, false, cond, _&&_}
+use mathlib.Core.Bool.{false, cond, _&&_}
 use lib.ListN.{drop}
 use lib.Dec.{eqb}
 use Rattle.intake.specs.Arrival.{allPieces}
 use Rattle.confirmation.specs.declared.Run.{Run}
-use Rattle.confirmation.specs.Run.{headerLength, begunOf, lineBytes}
+use Rattle.confirmation.specs.Run.{headerLength, begunOf}
+use Rattle.system.specs.Walk.{lineBytes}
 use Rattle.v210.specs.Row.{rowLength}
 use Rattle.programme.specs.declared.extractor.Extraction.{Extraction}
-use Rattle.programme.specs.Record.{takesRow}
-use Rattle.programme.specs.Extract.{extractedOf, rowOfLine, rowAfterLine}
+use Rattle.programme.specs.Extract.{givesRow, extractedOf, rowOfLine, rowAfterLine}
 
 -- ---- the step
 
@@ -30,7 +30,7 @@ extractedRun r bytes room =
 unfoldable pub extractionOf : Run → List ℕ → ℕ → Extraction
 extractionOf r bytes room =
     cond (eqb (r .number) 0)
-    (record { run = extractedRun r bytes room; gives = eqb (extractedOf (r .walk) bytes room .number) 0 && takesRow (r .walk) })
+    (record { run = extractedRun r bytes room; gives = eqb (extractedOf (r .walk) bytes room .number) 0 && givesRow (r .walk) bytes })
     (record { run = r; gives = false })
 
 -- the row afterwards

@@ -1,33 +1,34 @@
 -- A programme's rows into the lines of a recording: the whole answer of recording one line, and the bytes afterwards.
 use Prim.Native.Nat.{ℕ, _+_, _*_}
 use mathlib.Core.Path.{_≡_}
-use mathlib.Core.List.{List, [], _∷_}
+use mathlib.Core.List.{List}
 use mathlib.Core.Bool.{Bool, true, cond, not, _&&_}
 use lib.ListN.{length}
 use lib.Dec.{ltb, eqb}
 use Rattle.refusal.specs.declared.Refusal.{Refusal}
-use Rattle.refusal.specs.Answer.{none, refuse, orElse, firstOf}
+use Rattle.refusal.specs.Numbers.{wrongLength}
+use Rattle.refusal.specs.Answer.{none, refuse, writtenBy, orElse}
+use Rattle.words.specs.Bytes.{bytesOf}
 use Rattle.timing.specs.Report.{cleanReport}
 use Rattle.system.specs.declared.System.{System}
-use Rattle.system.specs.declared.Walk.{Walk}
-use Rattle.system.specs.Figures.{lineLength, lineCount, systemOf, vOf}
-use Rattle.system.specs.Walk.{mostLines, walkRefusal}
-use Rattle.line.specs.declared.Due.{Due}
-use Rattle.line.specs.Due.{dueOf}
-use Rattle.line.specs.Samples.{Samples, ysFrom, cbsFrom, crsFrom, lineOf}
-use Rattle.reader.specs.declared.Judgement.{Judgement}
-use Rattle.reader.specs.Judge.{judgementOf}
+use Rattle.system.specs.declared.due.Due.{Due}
+use Rattle.system.specs.declared.walk.Walk.{Walk}
+use Rattle.system.specs.declared.walk.Judgement.{Judgement}
+use Rattle.system.specs.Figures.{lineCount, systemOf}
+use Rattle.system.specs.Due.{dueOf}
+use Rattle.system.specs.Walk.{mostLines, walkRefusal, lineBytes, standingRefusal}
+use Rattle.system.specs.Judgement.{judgementOf}
+use Rattle.line.specs.Samples.{Samples, partSamples, lineOf}
 use Rattle.writer.specs.Write.{sampleRefusal}
-use Rattle.lent.specs.Bytes.{bytesOf}
 use Rattle.v210.specs.Row.{rowLength, unpackedOf, spareRefusal}
 
--- what is due in the line that a walk awaits
+-- what is due in the line that a walk awaits, where it is written
 abbrev pub dueAtWalk : Walk → Due
 dueAtWalk w = dueOf (systemOf (w .system)) (w .line)
 
 -- "v210 rows of the V = 0 lines": whether the awaited line takes a row
 unfoldable pub takesRow : Walk → Bool
-takesRow w = not (vOf (systemOf (w .system)) (w .line))
+takesRow w = not (dueAtWalk w .v)
 
 -- "after the last row those up to the end of its frame": whether the awaited line, of V = 1, still belongs to a frame that has begun
 unfoldable pub endsFrame : Walk → Bool
@@ -48,31 +49,26 @@ unfoldable pub endsPiece : Walk → ℕ → Bool
 endsPiece w most =
     eqb (w .line) 1 && (ltb 0 (w .lines) && ltb most (w .lines + lineCount (systemOf (w .system))))
 
--- an active part's samples as the writer takes them
-abbrev pub partSamples : List ℕ → Samples
-partSamples part = record { y = ysFrom 0 part; cb = cbsFrom 0 part; cr = crsFrom 0 part }
-
+-- a row's samples as the writer takes them
 abbrev pub rowSamples : List ℕ → Samples
 rowSamples row = partSamples (unpackedOf row)
 
 -- what refuses a row before its samples are looked at: "a short last row is 3", and set spare bits 5
 unfoldable pub unpackedRefusal : List ℕ → Refusal
-unpackedRefusal row = orElse (refuse (not (eqb (length row) rowLength)) 3 1) (spareRefusal row)
+unpackedRefusal row = orElse (refuse (not (eqb (length row) rowLength)) wrongLength 1) (spareRefusal row)
 
--- what refuses a line: where a row is due, the row, and "a sample outside 4 to 1019 is 12 with its place"
-unfoldable pub lineRefusal : Walk → List ℕ → Refusal
-lineRefusal w row =
+-- what refuses a row, where one is due: the row itself, and "a sample outside 4 to 1019 is 12 with its place"
+unfoldable pub rowRefusal : Walk → List ℕ → Refusal
+rowRefusal w row =
     cond (takesRow w) (orElse (unpackedRefusal row) (sampleRefusal (dueAtWalk w) (rowSamples row))) none
 
--- the walk's refusals, among them "a row past 10,000,000 lines is 4"; 3 at 0 for the line's bytes; then the line's
+-- the walk's refusals, among them "a row past 10,000,000 lines is 4"; 3 at 0 for the line's bytes; then the row's
 unfoldable pub recordRefusal : Walk → List ℕ → ℕ → Refusal
-recordRefusal w row room =
-    firstOf
-    (walkRefusal w ∷ refuse (not (eqb room (2 * lineLength (systemOf (w .system))))) 3 0 ∷ lineRefusal w row ∷ [])
+recordRefusal w row room = orElse (standingRefusal w room (lineBytes w)) (rowRefusal w row)
 
 -- the whole answer: a line that is written is clean
 unfoldable pub recordedOf : Walk → List ℕ → ℕ → Judgement
-recordedOf w row room = judgementOf (recordRefusal w row room) w cleanReport
+recordedOf w row room = judgementOf (recordRefusal w row room) w (dueAtWalk w) cleanReport
 
 -- the line as bytes; "V = 1 lines are written as fill", whatever the row
 unfoldable pub lineBytesOf : Walk → List ℕ → List ℕ
@@ -80,12 +76,12 @@ lineBytesOf w row = bytesOf (lineOf (dueAtWalk w) (rowSamples row))
 
 -- the line's bytes afterwards: "nothing of that line is written" where it is refused
 unfoldable pub lineBytesAfter : Walk → List ℕ → List ℕ → List ℕ
-lineBytesAfter w row before = cond (eqb (recordRefusal w row (length before) .number) 0) (lineBytesOf w row) before
+lineBytesAfter w row before = writtenBy (recordRefusal w row (length before)) (lineBytesOf w row) before
 
 -- what a line that is recorded was given
 pub record Recordable (w : Walk) (row : List ℕ) (room : ℕ) : Type 0 where
   pub walk : walkRefusal w .number ≡ 0
-  pub whole : room ≡ 2 * lineLength (systemOf (w .system))
+  pub whole : room ≡ lineBytes w
   pub long : takesRow w ≡ true → length row ≡ rowLength
   pub spare : takesRow w ≡ true → spareRefusal row .number ≡ 0
   pub samples : takesRow w ≡ true → sampleRefusal (dueAtWalk w) (rowSamples row) .number ≡ 0

@@ -3,14 +3,11 @@
 use Prim.Native.Nat.{ℕ, zero, suc}
 use mathlib.Core.List.{List, [], _∷_}
 use mathlib.Core.Bool.{Bool, cond, _&&_}
-use lib.ListN.{length}
 use lib.Dec.{eqb}
 use Rattle.intake.specs.Arrival.{allPieces}
-use Rattle.system.specs.declared.Walk.{Walk}
 use Rattle.system.specs.declared.System.the-variants.{Lines625}
 use Rattle.system.specs.Figures.{lineCount}
-use Rattle.system.specs.Walk.{walkRefusal, freshOf}
-use Rattle.confirmation.specs.Run.{lineBytes}
+use Rattle.system.specs.Walk.{walkRefusal, freshOf, lineBytes}
 use Rattle.v210.specs.Row.{rowLength}
 use Rattle.programme.specs.declared.tape.Tape.{Tape}
 use Rattle.programme.specs.Record.{takesRow, endsFrame, endsPiece, recordedOf, lineBytesOf, lineBytesAfter}

@@ -3,15 +3,16 @@ ghost use mathlib.Core.Path.{_≡_};
 ghost use Prim.Native.Nat.{ℕ, _*_, _<_, _≤_};
 ghost use lib.ListN.{length, getD};
 ghost use Rattle.line.specs.Samples.{activeLength};
-ghost use Rattle.lent.specs.Bytes.{wordsOf};
+ghost use Rattle.words.specs.Words.{mostWord};
+ghost use Rattle.words.specs.Bytes.{wordsOf};
 ghost use Rattle.v210.specs.Row.{rowLength, packedOf};
-ghost use Rattle.programme.specs.Extract.{extractedOf, rowAfterLine};
+ghost use Rattle.programme.specs.Extract.{givesRow, extractedOf, rowAfterLine};
 ghost use Rattle.programme.specs.Extraction.{extractionOf, rowAfterNext};
-use crate::takes_row;
 use confirmation::Run;
 use line::ACTIVE_LENGTH;
-use reader::Judgement;
+use refusal::Number;
 use refusal::Refusal;
+use system::Judgement;
 use system::Walk;
 
 // A run after a line's bytes, and whether they gave a row.
@@ -23,17 +24,17 @@ pub struct Extraction {
 // Packs an active part's bytes into a row, by way of room for its words.
 fn pack_in(active: &[u8], part: &mut [u16], row: &mut [u8])
     requires { ⌜ (length (now active) ≡ 2 * activeLength) × (length (now part) ≡ activeLength) × (length (now row) ≡ rowLength) ⌝ }
-    requires { ⌜ ((i : ℕ) → i < activeLength → getD (wordsOf (now active)) i 0 ≤ 1023) ⌝ }
+    requires { ⌜ ((i : ℕ) → i < activeLength → getD (wordsOf (now active)) i 0 ≤ mostWord) ⌝ }
     ensures { λ _. ⌜ now (row .exit) ≡ packedOf (wordsOf (now (active .entry))) ⌝ }
 {
-    lent::to_words(active, part);
+    words::to_words(active, part);
     v210::pack(part, row);
 }
 
 // The same, with room of its own.
 fn pack_active(active: &[u8], row: &mut [u8])
     requires { ⌜ (length (now active) ≡ 2 * activeLength) × (length (now row) ≡ rowLength) ⌝ }
-    requires { ⌜ ((i : ℕ) → i < activeLength → getD (wordsOf (now active)) i 0 ≤ 1023) ⌝ }
+    requires { ⌜ ((i : ℕ) → i < activeLength → getD (wordsOf (now active)) i 0 ≤ mostWord) ⌝ }
     ensures { λ _. ⌜ now (row .exit) ≡ packedOf (wordsOf (now (active .entry))) ⌝ }
 {
     let mut part = [0u16; ACTIVE_LENGTH];
@@ -46,39 +47,39 @@ pub fn extract(walk: Walk, bytes: &[u8], row: &mut [u8]) -> Judgement
     ensures answer { λ r. ⌜ r ≡ extractedOf walk (now (bytes .entry)) (length (now (row .entry))) ⌝ }
     ensures row { λ r. ⌜ now (row .exit) ≡ rowAfterLine walk (now (bytes .entry)) (now (row .entry)) ⌝ }
 {
-    let standing = walk.refusal();
+    let size = walk.line_bytes();
+    let standing = walk.standing(bytes.len(), size);
     if standing.number != 0 {
         return Judgement::refused(walk, standing);
-    }
-    let size = 2 * system::system_of(walk.system).line_length();
-    if bytes.len() != size {
-        return Judgement::refused(
-            walk,
-            Refusal {
-                number: 3,
-                place: 0,
-            },
-        );
     }
     if row.len() != v210::ROW_LENGTH {
         return Judgement::refused(
             walk,
             Refusal {
-                number: 3,
+                number: Number::WRONG_LENGTH,
                 place: 1,
             },
         );
     }
-    let judgement = lent::judge(walk, bytes);
+    let judgement = bytewise::judge(walk, bytes);
     if judgement.number != 0 {
         return judgement;
     }
-    if !takes_row(walk) {
+    if !gives_row(walk, bytes) {
         return judgement;
     }
     let start = size - 2 * ACTIVE_LENGTH;
     pack_active(&bytes[start..size], row);
     judgement
+}
+
+// Whether the line that is lent at a walk gives a row: its V is 0.
+fn gives_row(walk: Walk, bytes: &[u8]) -> bool
+    requires { ⌜ 8 ≤ length (now bytes) ⌝ }
+    ensures { λ r. ⌜ r ≡ givesRow walk (now (bytes .entry)) ⌝ }
+{
+    let due = walk.due(words::word_of(bytes[6], bytes[7]));
+    !due.v
 }
 
 // Extracting as a run in steps: the run after these bytes, a line's or what is left at the end, as its next line, and whether they gave the
@@ -99,8 +100,14 @@ pub fn extract_next(run: Run, bytes: &[u8], row: &mut [u8]) -> Extraction
         number: judgement.number,
         place: judgement.place,
     };
+    if judgement.number != 0 {
+        return Extraction {
+            run: next,
+            gives: false,
+        };
+    }
     Extraction {
         run: next,
-        gives: judgement.number == 0 && takes_row(run.walk),
+        gives: gives_row(run.walk, bytes),
     }
 }

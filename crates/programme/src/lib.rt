@@ -10,20 +10,20 @@ pub use recorder::record;
 pub use tape::Tape;
 ghost use mathlib.Core.Path.{_≡_};
 ghost use Rattle.programme.specs.Record.{dueAtWalk, takesRow, endsFrame, endsPiece, framesLines, pieceLines};
-use line::Due;
+use system::Due;
 use system::System;
 use system::System525;
 use system::System625;
 use system::Walk;
 
-// What is due in the line that a walk awaits.
+// What is due in the line that a walk awaits, where it is written.
 pub(crate) fn due_at(walk: Walk) -> Due
     ensures { λ r. ⌜ r ≡ dueAtWalk walk ⌝ }
 {
     Due::of(system::system_of(walk.system), walk.line)
 }
 
-// Whether the line that a walk awaits takes a row, or gives one: its V is 0.
+// Whether the line that a walk awaits takes a row where it is written: its V is 0.
 pub fn takes_row(walk: Walk) -> bool
     ensures { λ r. ⌜ r ≡ takesRow walk ⌝ }
 {

@@ -1,52 +1,36 @@
 -- The promises on judging and reading a line, of the definitions that the calls' contracts cite. Assumes nothing.
 use Prim.Native.Nat.{ℕ}
 use mathlib.Core.Path.{_≡_, refl, sym, ap, subst, _∙_}
-use mathlib.Core.Bool.{true, false}
 use mathlib.Core.List.{List, []}
 use mathlib.Core.Logic.{inr}
 use native.Mathlib.Omega.{arith}
-use lib.Dec.{eqb}
 use lib.ListN.{length, take, drop, length-take, length-drop}
-use borrow.Author.Tests.{eq-eqb, eqb-true, eqb-false}
 use Rattle.refusal.specs.declared.Refusal.{Refusal}
-use Rattle.refusal.specs.Answer.{none, orElse}
+use Rattle.refusal.specs.Answer.{none}
 use Rattle.refusal.specs.Table.{Row, noRows, Decides, Keeps}
-use Rattle.refusal.proofs.Cases.{by-test}
-use Rattle.refusal.proofs.Tables.{keeps-before, keeps-last, decides-when, decides-before}
-use Rattle.timing.specs.declared.Report.{Report}
-use Rattle.timing.specs.Report.{cleanReport}
-use Rattle.system.specs.declared.Walk.{Walk}
-use Rattle.system.specs.Figures.{lineLength, activeOffset, systemOf}
-use Rattle.system.specs.Walk.{walkRefusal, steppedOf}
-use Rattle.system.proofs.Theorems.{walk-exact, walk-decides}
-use Rattle.line.specs.declared.Due.{Due}
-use Rattle.line.specs.Fault.{wordRefusal}
-use Rattle.line.specs.Lengths.{lengthRefusal, bufferRefusal, bufferRefusals}
+use Rattle.system.specs.declared.walk.Walk.{Walk}
+use Rattle.system.specs.declared.walk.Judgement.{Judgement}
+use Rattle.system.specs.Figures.{activeOffset, systemOf}
+use Rattle.system.specs.Walk.{lineWords, dueIn}
+use Rattle.line.specs.Lengths.{bufferRefusal, bufferRefusals}
 use Rattle.line.specs.Samples.{activeLength, yLength, cLength, ysFrom, cbsFrom, crsFrom}
-use Rattle.line.proofs.Theorems.{length-exact, buffer-exact, buffer-decides, words-exact, words-decide}
-use Rattle.reader.specs.declared.Judgement.{Judgement}
-use Rattle.reader.specs.Judge.{dueIn, readRefusal, reportOf, refusedAt, acceptedAt, judgedOf, bufferAfter, activeOf}
+use Rattle.line.proofs.Lengths.{lengths-accepted}
+use Rattle.line.proofs.Theorems.{buffer-exact, buffer-decides}
+use Rattle.reader.specs.Judge.{readRefusal, judgedOf, bufferAfter, activeOf}
 use Rattle.reader.specs.Left.{Stands, Advances}
 use Rattle.reader.specs.Refusals.{readRefusals}
-use Rattle.reader.proofs.Judged.{accepted-is-none, active-fits, judged-refused, judged-accepted, buffer-refused, buffer-blank, buffer-taken, active-refused, active-accepted}
+use Rattle.reader.proofs.Judged.{line-exact, line-decides, judged-as-refused, judged-refused, judged-accepted, number-judged, buffer-refused, buffer-blank, buffer-taken, active-fits, active-refused, active-accepted}
 
 -- ---- Each refusal comes exactly when its condition holds and none earlier does.
 
 -- Reading keeps to the table 1, 2, 4, 3, lowest offset, if what is wrong with the buffers keeps to its own rows.
 pub read-exact : (rows : Row) (buffers : Refusal) (w : Walk) (words : List ℕ) → Keeps rows buffers
     → Keeps (readRefusals rows w words) (readRefusal buffers w words)
-unfolding readRefusal
-read-exact rows buffers w words kept =
-    keeps-before _ _ (walkRefusal w) _ (walk-exact w)
-    (keeps-before _ _ (lengthRefusal (systemOf (w .system)) (length words)) _ (length-exact (systemOf (w .system)) (length words))
-    (keeps-before _ _ buffers _ kept (keeps-last _ (wordRefusal (dueIn w words) words) (words-exact (dueIn w words) words))))
+read-exact rows buffers w words kept = line-exact (length words) (lineWords w) rows buffers w words kept
 
 -- That table leaves one answer, if the buffers' rows do.
 pub read-decides : (rows : Row) (w : Walk) (words : List ℕ) → Decides rows → Decides (readRefusals rows w words)
-read-decides rows w words decided =
-    decides-before _ _ (walk-decides w)
-    (decides-before _ _ (decides-when (length words ≡ lineLength (systemOf (w .system)) → ⊥) 3 0)
-    (decides-before _ _ decided (words-decide (dueIn w words) words)))
+read-decides rows w words decided = line-decides (length words) (lineWords w) rows none w words decided
 
 module _ (w : Walk) (words : List ℕ) where
   -- Judging, and asking for the active part, keep to the table without rows for sample buffers ..
@@ -71,21 +55,18 @@ module _ (w : Walk) (words : List ℕ) where
 module _ (buffers : Refusal) (w : Walk) (words : List ℕ) where
   -- The judgement's number and place are those of the refusal, or both 0.
   pub judged-number : record { number = judgedOf buffers w words .number; place = judgedOf buffers w words .place } ≡ readRefusal buffers w words
-  judged-number =
-      by-test (eqb (readRefusal buffers w words .number) 0)
-      (λ t. let z = eqb-true _ _ t in rw (judged-accepted buffers w words z, accepted-is-none buffers w words z))
-      (λ f. rw (judged-refused buffers w words _ refl (eqb-false _ _ f)))
+  judged-number = judged-as-refused (length words) (lineWords w) buffers w words
 
   -- A refused line leaves the walk standing, is told as clean, and writes no buffer.
   pub refused-stands : (readRefusal buffers w words .number ≡ 0 → ⊥) → Stands w (judgedOf buffers w words)
   refused-stands n =
-      rw (judged-refused buffers w words _ refl n)
+      rw (judged-refused (length words) (lineWords w) buffers w words _ refl n)
       (record { walk = refl; report = refl; buffer = λ d samples before. buffer-refused _ d samples before n })
 
   -- An accepted line advances the walk by its report, and gives its samples exactly where its V is 0.
   pub accepted-advances : readRefusal buffers w words .number ≡ 0 → Advances w words (judgedOf buffers w words)
   accepted-advances z =
-      rw (judged-accepted buffers w words z)
+      rw (judged-accepted (length words) (lineWords w) buffers w words z)
       (record {
         answer = refl;
         picture = λ v samples before. buffer-taken _ _ samples before refl v;
@@ -98,7 +79,7 @@ module _ (w : Walk) (words : List ℕ) where
       → (activeOf w words ≡ take activeLength (drop (activeOffset (systemOf (w .system))) words)) × (length (activeOf w words) ≡ activeLength)
   active-part z =
       let part = active-accepted w words z in
-      let fits = active-fits none w words z in
+      let fits = active-fits w words none z in
       (part, rw part (simp (length-take, length-drop) (omega arith)))
 
   -- The active part is empty exactly when reading the line would be refused, whatever the sample buffers.
@@ -111,23 +92,13 @@ module _ (w : Walk) (words : List ℕ) where
   pub active-empty-as-read-refused : (y cb cr : ℕ) → y ≡ yLength → cb ≡ cLength → cr ≡ cLength
       → ((judgedOf (bufferRefusal y cb cr) w words .number ≡ 0 → ⊥) → activeOf w words ≡ [])
       × (activeOf w words ≡ [] → judgedOf (bufferRefusal y cb cr) w words .number ≡ 0 → ⊥)
-  unfolding bufferRefusal orElse
   active-empty-as-read-refused y cb cr hy hcb hcr =
-      let fine : bufferRefusal y cb cr ≡ none = simp (eq-eqb y yLength hy, eq-eqb cb cLength hcb, eq-eqb cr cLength hcr) in
+      let fine = lengths-accepted y cb cr hy hcb hcr in
       let number : readRefusal none w words .number ≡ judgedOf (bufferRefusal y cb cr) w words .number =
-      sym (ap (λ (r : Refusal). r .number) (judged-number none w words)) ∙ ap (λ (r : Refusal). judgedOf r w words .number) (sym fine) in
+      sym (number-judged (length words) (lineWords w) none w words) ∙ ap (λ (r : Refusal). judgedOf r w words .number) (sym fine) in
       subst (λ (n : ℕ). ((n ≡ 0 → ⊥) → activeOf w words ≡ []) × (activeOf w words ≡ [] → n ≡ 0 → ⊥)) number active-empty-exactly
 
 -- ---- Two results that a contract allows for one input are the same.
-
--- Of the answer to a refused line.
-pub refused-one-result : (w : Walk) (refusal : Refusal) (r s : Judgement) → r ≡ refusedAt w refusal → s ≡ refusedAt w refusal → r ≡ s
-refused-one-result w refusal r s e f = e ∙ sym f
-
--- Of the answer to an accepted line.
-pub accepted-one-result : (w : Walk) (report : Report) (r s : Judgement) → r ≡ record { number = 0; place = 0; report = report; walk = steppedOf w report }
-    → s ≡ record { number = 0; place = 0; report = report; walk = steppedOf w report } → r ≡ s
-accepted-one-result w report r s e f = e ∙ sym f
 
 -- Of judging.
 pub judge-one-result : (w : Walk) (words : List ℕ) (r s : Judgement) → r ≡ judgedOf none w words → s ≡ judgedOf none w words → r ≡ s

@@ -8,27 +8,15 @@ use Rattle.refusal.specs.declared.Refusal.{Refusal}
 use Rattle.refusal.specs.Answer.{none, firstOf}
 use Rattle.timing.specs.declared.Report.{Report}
 use Rattle.timing.specs.Code.{correctionOf}
-use Rattle.timing.specs.Report.{codeReportOf, cleanReport}
-use Rattle.system.specs.declared.Walk.{Walk}
+use Rattle.timing.specs.Report.{codeReportOf}
+use Rattle.system.specs.declared.due.Due.{Due}
+use Rattle.system.specs.declared.walk.Walk.{Walk}
+use Rattle.system.specs.declared.walk.Judgement.{Judgement}
 use Rattle.system.specs.Figures.{savOffset, activeOffset, systemOf}
-use Rattle.system.specs.Walk.{walkRefusal, advancedOf}
-use Rattle.line.specs.declared.Due.{Due}
-use Rattle.line.specs.Due.{dueOf}
+use Rattle.system.specs.Walk.{standingRefusal, lineWords, dueIn}
+use Rattle.system.specs.Judgement.{judgementOf}
 use Rattle.line.specs.Fault.{wordRefusal}
-use Rattle.line.specs.Lengths.{lengthRefusal}
 use Rattle.line.specs.Samples.{activeLength}
-use Rattle.reader.specs.declared.Judgement.{Judgement}
-
--- What is due in the line that is lent at a walk. Here the awaited line's number alone decides; the words stand by for rules in which
--- the line's own EAV does.
-unfoldable pub dueIn : Walk → List ℕ → Due
-dueIn w words = dueOf (systemOf (w .system)) (w .line)
-
--- "Reader: 1, 2, 4, 3, then the lowest offset with any fault", where buffers is what is wrong with the sample buffers
-unfoldable pub readRefusal : Refusal → Walk → List ℕ → Refusal
-readRefusal buffers w words =
-    firstOf
-    (walkRefusal w ∷ lengthRefusal (systemOf (w .system)) (length words) ∷ buffers ∷ wordRefusal (dueIn w words) words ∷ [])
 
 -- "A line's report carries both codes' reports in one record."
 unfoldable pub reportOf : Due → List ℕ → Report
@@ -38,20 +26,23 @@ reportOf d words =
       sav = codeReportOf (correctionOf (getD words (savOffset (d .system) + 3) 0));
     }
 
--- "A refused line leaves the walk standing ..; its report says clean for both codes."
-abbrev pub refusedAt : Walk → Refusal → Judgement
-refusedAt w r = record { number = r .number; place = r .place; report = cleanReport; walk = w }
+-- "Reader: 1, 2, 4, 3, then the lowest offset with any fault": the order for all who read a line at a walk. So many words, or bytes, are
+-- given and so many due, and others is what is wrong with the lengths of other slices.
+unfoldable pub lineRefusal : ℕ → ℕ → Refusal → Walk → List ℕ → Refusal
+lineRefusal given due others w words = firstOf (standingRefusal w given due ∷ others ∷ wordRefusal (dueIn w words) words ∷ [])
 
-abbrev pub acceptedAt : Walk → Report → Judgement
-acceptedAt w report = record { number = 0; place = 0; report = report; walk = advancedOf w report }
+-- and the whole judgement of it
+unfoldable pub lineJudged : ℕ → ℕ → Refusal → Walk → List ℕ → Judgement
+unfolding lineRefusal
+lineJudged given due others w words =
+    judgementOf (lineRefusal given due others w words) w (dueIn w words) (reportOf (dueIn w words) words)
 
--- the judgement of a line that this refuses, or nothing, with the report that it has where it is accepted
-unfoldable pub judgementOf : Refusal → Walk → Report → Judgement
-judgementOf r w report = cond (eqb (r .number) 0) (acceptedAt w report) (refusedAt w r)
+-- of words, where buffers is what is wrong with the sample buffers
+abbrev pub readRefusal : Refusal → Walk → List ℕ → Refusal
+readRefusal buffers w words = lineRefusal (length words) (lineWords w) buffers w words
 
--- the whole judgement
-unfoldable pub judgedOf : Refusal → Walk → List ℕ → Judgement
-judgedOf buffers w words = judgementOf (readRefusal buffers w words) w (reportOf (dueIn w words) words)
+abbrev pub judgedOf : Refusal → Walk → List ℕ → Judgement
+judgedOf buffers w words = lineJudged (length words) (lineWords w) buffers w words
 
 -- A sample buffer afterwards: "No refusal writes a buffer", and with V = 1 it is "neither looked at nor written".
 unfoldable pub bufferAfter : Judgement → Due → List ℕ → List ℕ → List ℕ

@@ -1,16 +1,17 @@
 // What is wrong with one word of a line, by what is due where it stands.
 ghost use mathlib.Core.Path.{_≡_};
-ghost use mathlib.Core.Bool.{cond, _||_};
-ghost use lib.Dec.{ltb};
+ghost use mathlib.Core.Bool.{cond};
 ghost use Rattle.timing.specs.Report.{numberWhere};
-ghost use Rattle.line.specs.Due.{dueAt};
-ghost use Rattle.line.specs.Fault.{leastSample, mostSample, faultWhere};
-use line::Due;
+ghost use Rattle.line.specs.Offsets.{dueAt};
+ghost use Rattle.line.specs.Fault.{faultWhere};
+use line::LEAST_ONES;
+use line::MOST_ZEROS;
 use line::What;
+use line::reserved;
+use refusal::Number;
+use system::Due;
 use timing::Correction;
-
-// A word is 10 bits.
-pub(crate) const MOST_WORD: u16 = 1023;
+use words::MOST_WORD;
 
 // The number where the test says so, and 0 otherwise.
 fn number_if(test: bool, number: u32) -> u32
@@ -22,20 +23,13 @@ fn number_if(test: bool, number: u32) -> u32
     0
 }
 
-// Whether a word is none of the samples 4 to 1019.
-pub(crate) fn reserved(word: u16) -> bool
-    ensures { λ r. ⌜ r ≡ (ltb word leastSample || ltb mostSample word) ⌝ }
-{
-    (word < 4) | (1019 < word)
-}
-
 // The number of a correction where these F, V, H are due: its own refusal, or 9 where they are others.
 fn number_where(due: u32, correction: Correction) -> u32
     ensures { λ r. ⌜ r ≡ numberWhere due correction ⌝ }
 {
     match correction {
-        Correction::Clean { fvh } => number_if(fvh != due, 9),
-        Correction::Repaired { fvh, bit } => number_if(fvh != due, 9),
+        Correction::Clean { fvh } => number_if(fvh != due, Number::NOT_DUE),
+        Correction::Repaired { fvh, bit } => number_if(fvh != due, Number::NOT_DUE),
         Correction::Refused { number } => number,
     }
 }
@@ -45,14 +39,14 @@ pub(crate) fn fault(due: What, word: u16) -> u32
     ensures { λ r. ⌜ r ≡ faultWhere due word ⌝ }
 {
     if MOST_WORD < word {
-        return 5;
+        return Number::OVER;
     }
     match due {
-        What::Ones => number_if(word < 1020, 6),
-        What::Zeros => number_if(3 < word, 6),
+        What::Ones => number_if(word < LEAST_ONES, Number::NO_CODE),
+        What::Zeros => number_if(MOST_ZEROS < word, Number::NO_CODE),
         What::Fourth { fvh } => number_where(fvh, timing::correct_expecting(word, fvh)),
-        What::Fill { word: fill } => number_if(word != fill, 10),
-        What::Sample => number_if(reserved(word), 11),
+        What::Fill { word: fill } => number_if(word != fill, Number::NO_FILL),
+        What::Sample => number_if(reserved(word), Number::RESERVED),
     }
 }
 
@@ -60,5 +54,5 @@ pub(crate) fn fault(due: What, word: u16) -> u32
 pub(crate) fn fault_at(d: Due, offset: usize, word: u16) -> u32
     ensures { λ r. ⌜ r ≡ faultWhere (dueAt d offset) word ⌝ }
 {
-    fault(d.at(offset), word)
+    fault(line::due_at(d, offset), word)
 }

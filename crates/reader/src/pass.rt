@@ -3,38 +3,31 @@
 ghost use mathlib.Core.Path.{_≡_};
 ghost use mathlib.Core.Bool.{true};
 ghost use Prim.Native.Nat.{ℕ, _+_, _*_, _<_, _≤_};
-ghost use lib.ListN.{length};
-ghost use Rattle.system.specs.Figures.{lineLength};
+ghost use lib.ListN.{length, getD};
+ghost use Rattle.system.specs.Figures.{lineLength, activeOffset};
 ghost use Rattle.line.specs.Fault.{faultAt, wordRefusal};
 ghost use Rattle.line.specs.Samples.{activeLength};
-ghost use Rattle.reader.specs.Passes.{CodeWell, Filled, Sampled, ActiveWell};
-use crate::active_offset;
-use crate::fault::MOST_WORD;
+ghost use Rattle.line.specs.Parts.{CodeWell, Filled, Sampled, ActiveWell};
 use crate::fault::fault;
-use crate::fault::reserved;
 use crate::scan::scan;
 use line::ACTIVE_LENGTH;
-use line::Due;
 use line::What;
+use line::reserved;
 use refusal::Refusal;
-
-// Two words as one number, which the processor compares at once.
-fn pair(first: u16, second: u16) -> u32
-    ensures { λ r. ⌜ r ≡ first + 65536 * second ⌝ }
-{
-    first as u32 + 65536 * (second as u32)
-}
+use system::Due;
+use words::MOST_WORD;
+use words::pair_of;
 
 // Whether all of these pairs of words from an offset are the fill that is due.
 fn filled(words: &[u16], from: usize, pairs: usize, even: u16, odd: u16) -> bool
     requires { ⌜ from + 2 * pairs ≤ length (now words) ⌝ }
-    ensures { λ r. ⌜ (r ≡ true → Filled even odd (now (words .entry)) from pairs) ⌝ }
+    ensures { λ r. ⌜ (r ≡ true → Filled even odd (λ k. getD (now (words .entry)) (from + k) 0) pairs) ⌝ }
 {
-    let due = pair(even, odd);
+    let due = pair_of(even, odd);
     let mut well = true;
     for k in 0..pairs {
         let i = from + 2 * k;
-        well = well & (pair(words[i], words[i + 1]) == due);
+        well = well & (pair_of(words[i], words[i + 1]) == due);
     }
     well
 }
@@ -42,7 +35,7 @@ fn filled(words: &[u16], from: usize, pairs: usize, even: u16, odd: u16) -> bool
 // Whether all words of an active part from an offset are samples.
 fn all_samples(words: &[u16], from: usize) -> bool
     requires { ⌜ from + activeLength ≤ length (now words) ⌝ }
-    ensures { λ r. ⌜ (r ≡ true → Sampled (now (words .entry)) from activeLength) ⌝ }
+    ensures { λ r. ⌜ (r ≡ true → Sampled (λ k. getD (now (words .entry)) (from + k) 0) activeLength) ⌝ }
 {
     let mut well = true;
     for k in 0..ACTIVE_LENGTH {
@@ -55,7 +48,7 @@ fn all_samples(words: &[u16], from: usize) -> bool
 // with a repaired code stays quick.
 fn code_well(words: &[u16], from: usize, fvh: u32) -> bool
     requires { ⌜ from + 4 ≤ length (now words) ⌝ }
-    ensures { λ r. ⌜ (r ≡ true → CodeWell fvh (now (words .entry)) from) ⌝ }
+    ensures { λ r. ⌜ (r ≡ true → CodeWell fvh (λ k. getD (now (words .entry)) (from + k) 0)) ⌝ }
 {
     let first = fault(What::Ones, words[from]);
     let second = fault(What::Zeros, words[from + 1]);
@@ -67,12 +60,12 @@ fn code_well(words: &[u16], from: usize, fvh: u32) -> bool
 // Whether the active part is fill, on a line with V = 1, or samples.
 fn active_well(d: Due, words: &[u16]) -> bool
     requires { ⌜ length (now words) ≡ lineLength (d .system) ⌝ }
-    ensures { λ r. ⌜ (r ≡ true → ActiveWell d (now (words .entry))) ⌝ }
+    ensures { λ r. ⌜ (r ≡ true → ActiveWell d (λ k. getD (now (words .entry)) (activeOffset (d .system) + k) 0)) ⌝ }
 {
     let system = d.system;
-    let active = active_offset(system);
+    let active = system.active_offset();
     if d.v {
-        return filled(words, active, ACTIVE_LENGTH / 2, d.even, d.odd);
+        return filled(words, active, ACTIVE_LENGTH / 2, d.fill.even, d.fill.odd);
     }
     all_samples(words, active)
 }
@@ -82,10 +75,10 @@ fn all_well(d: Due, words: &[u16]) -> bool
     requires { ⌜ length (now words) ≡ lineLength (d .system) ⌝ }
     ensures { λ r. ⌜ (r ≡ true → (i : ℕ) → i < lineLength (d .system) → faultAt d (now (words .entry)) i ≡ 0) ⌝ }
 {
-    if MOST_WORD < d.even {
+    if MOST_WORD < d.fill.even {
         return false;
     }
-    if MOST_WORD < d.odd {
+    if MOST_WORD < d.fill.odd {
         return false;
     }
     let system = d.system;
@@ -93,7 +86,7 @@ fn all_well(d: Due, words: &[u16]) -> bool
     if !code_well(words, 0, d.flags(true)) {
         return false;
     }
-    if !filled(words, 4, (sav - 4) / 2, d.even, d.odd) {
+    if !filled(words, 4, (sav - 4) / 2, d.fill.even, d.fill.odd) {
         return false;
     }
     if !code_well(words, sav, d.flags(false)) {
@@ -108,10 +101,7 @@ pub(crate) fn first_fault(d: Due, words: &[u16]) -> Refusal
     ensures { λ r. ⌜ r ≡ wordRefusal d (now (words .entry)) ⌝ }
 {
     if all_well(d, words) {
-        return Refusal {
-            number: 0,
-            place: 0,
-        };
+        return Refusal::NONE;
     }
     scan(d, words)
 }

@@ -4,10 +4,9 @@ ghost use lib.ListN.{length};
 ghost use Rattle.system.specs.Figures.{lineLength};
 ghost use Rattle.line.specs.Fault.{wordRefusal};
 ghost use Rattle.reader.specs.Passes.{partStart};
-use crate::active_offset;
 use crate::fault::fault_at;
-use line::Due;
 use refusal::Refusal;
+use system::Due;
 use system::System;
 
 // Where a part of a line starts: EAV, the blanking between, SAV, the active part; after them, where the line ends.
@@ -24,7 +23,7 @@ fn part_start(system: System, part: usize) -> usize
         return system.sav_offset();
     }
     if part == 3 {
-        return active_offset(system);
+        return system.active_offset();
     }
     system.line_length()
 }
@@ -49,9 +48,6 @@ pub(crate) fn scan(d: Due, words: &[u16]) -> Refusal
                 }
             }
         }
-        break 'scan Refusal {
-            number: 0,
-            place: 0,
-        };
+        break 'scan Refusal::NONE;
     }
 }

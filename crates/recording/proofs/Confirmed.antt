@@ -12,26 +12,30 @@ use lib.Seq.{take-at, drop-at}
 use borrow.Author.Tests.{eqb-true, eqb-false}
 use Rattle.refusal.specs.declared.Refusal.{Refusal}
 use Rattle.refusal.proofs.Cases.{by-test}
-use Rattle.system.specs.declared.Walk.{Walk}
+use Rattle.system.specs.declared.walk.Walk.{Walk}
 use Rattle.system.specs.Figures.{lineLength, systemOf}
-use Rattle.system.specs.Walk.{mostLines, walkRefusal, freshWalk, freshOf, advancedOf}
-use Rattle.system.proofs.Laws.{Good, accepted-good, good-accepted, fresh-accepted, walk-many-lines}
+use Rattle.system.specs.Walk.{mostLines, walkRefusal, freshWalk, freshOf, advancedOf, lineBytes}
+use Rattle.system.proofs.Laws.{Good, accepted-good, good-accepted, fresh-accepted, named-accepted, walk-many-lines, judgement-well}
 use Rattle.line.specs.Samples.{Samples}
 use Rattle.line.specs.Fit.{Measured}
-use Rattle.reader.specs.declared.Judgement.{Judgement}
-use Rattle.reader.specs.Judge.{judgedOf}
-use Rattle.lent.specs.Bytes.{wordsOf, judgedBytes}
-use Rattle.reader.proofs.Judged.{judgement-well}
-use Rattle.lent.proofs.Judged.{judged-walk, judged-count}
-use Rattle.lent.proofs.Theorems.{bytes-as-words}
+use Rattle.system.specs.declared.walk.Judgement.{Judgement}
+use Rattle.line.proofs.Lengths.{measured-accepted}
+use Rattle.reader.specs.Judge.{judgedOf, lineJudged}
+use Rattle.words.specs.Bytes.{wordsOf}
+use Rattle.bytewise.specs.Bytes.{judgedBytes}
+use Rattle.bytewise.proofs.Judged.{judged-count}
+use Rattle.reader.proofs.Judged.{accepted, judged-accepted, number-judged}
+use Rattle.refusal.specs.Answer.{none}
+use Rattle.refusal.proofs.Firsts.{same-number}
+use Rattle.bytewise.proofs.Theorems.{bytes-as-words}
 use Rattle.confirmation.specs.declared.Run.{Run}
-use Rattle.confirmation.specs.Run.{headerLength, headerSystem, headerStart, begunOf, lineBytes, judgedNext, bodyOf, confirmedOf}
+use Rattle.confirmation.specs.Run.{headerLength, headerSystem, headerStart, begunOf, judgedNext, bodyOf, confirmedOf}
 use Rattle.confirmation.proofs.Nexts.{endedWith, next-line-bytes}
 use Rattle.confirmation.proofs.Bodies.{line-has-bytes, body-ended, body-none, body-next, body-last, body-barred}
 use Rattle.recording.specs.Recording.{Recording, end, next, lineAfterAll, TwoInverted}
 use Rattle.recording.specs.Play.{readAnswer, readBuffers, Played, stoppedBy, play}
 use Rattle.recording.specs.Confirmed.{Holds}
-use Rattle.recording.proofs.OneLine.{measured-accepted, buffers-measured, answered-accepted}
+use Rattle.recording.proofs.OneLine.{buffers-measured, answered-accepted}
 use Rattle.recording.proofs.Theorems.{fresh, line-after-in, few, blank, blank-measured, recording-reads-back, two-inverted-refused, read-through-is-recording}
 
 -- every line has so many bytes
@@ -64,9 +68,9 @@ module _ (system start : ℕ) where
 
     goes-on : readAnswer w b (wordsOf line) .number ≡ 0
         → runAfter (stoppedBy (readAnswer w b (wordsOf line))) ≡ goingOn (readAnswer w b (wordsOf line) .walk)
-    unfolding judgedOf
+    unfolding lineJudged
     goes-on z =
-        let e = judgement-well _ w _ z in
+        let e = judgement-well _ w _ _ z in
         ap (λ (j : Judgement). runAfter (stoppedBy j)) e ∙ sym (ap (λ (j : Judgement). goingOn (j .walk)) e)
 
     same-bytes : lineBytes (readAnswer w b (wordsOf line) .walk) ≡ lineBytes w
@@ -122,21 +126,15 @@ record Counted (w : Walk) (line : List ℕ) : Type 0 where
   one-more : judgedBytes w line .walk .lines ≡ w .lines + 1
 
 accepted-counted : (w : Walk) (line : List ℕ) → judgedBytes w line .number ≡ 0 → Counted w line
-unfolding judgedBytes advancedOf
+unfolding advancedOf
 accepted-counted w line z =
-    by-test (eqb (walkRefusal w .number) 0)
-    (λ a.
+    let well = sym (number-judged (length line) (lineBytes w) none w (wordsOf line)) ∙ z in
+    let a = accepted (length line) (lineBytes w) none w (wordsOf line) well in
     record {
-      good = accepted-good w (eqb-true _ _ a);
-      size =
-          by-test (eqb (length line) (lineBytes w)) (λ t. eqb-true _ _ t)
-          (λ f. absurd (never (judged-count w line (eqb-true _ _ a) (eqb-false _ _ f)) (λ e. omega arith)));
-      one-more = ap (λ (j : Judgement). j .walk .lines) (judgement-well _ w _ z);
-    })
-    (λ a. absurd (never (judged-walk w line (eqb-false _ _ a)) (eqb-false _ _ a)))
-  where
-    never : {j : Judgement} → judgedBytes w line ≡ j → (j .number ≡ 0 → ⊥) → ⊥
-    never q n = n (ap (λ (j : Judgement). j .number) (sym q) ∙ z)
+      good = accepted-good w (a .walk);
+      size = a .size;
+      one-more = ap (λ (j : Judgement). j .walk .lines) (judged-accepted (length line) (lineBytes w) none w (wordsOf line) well);
+    }
 
 -- bytes that are whole lines, for which a walk has room
 record WholeLines (w : Walk) (bytes : List ℕ) : Type 0 where
@@ -259,7 +257,7 @@ module _ {bytes rest : List ℕ} {system start altered : ℕ} {ps : List Samples
   trailing-refused hn some short =
       let f = fresh system start hf in
       let good : Good reached = record { system = f .a-system; line = line-after-in system start ps (f .a-line); lines = hn; repairs = few rec } in
-      let stands : walkRefusal reached .number ≡ 0 = ap (λ (r : Refusal). r .number) (good-accepted reached good) in
+      let stands : walkRefusal reached .number ≡ 0 = same-number (good-accepted reached good) in
       left (omega arith)
       ∙ body-last (goingOn system start reached) rest refl (omega arith) (omega arith)
       ∙ ap (λ (j : Judgement). runAfter system start (stoppedBy j)) (judged-count reached rest stands (λ e. omega arith))
@@ -268,8 +266,8 @@ module _ {bytes rest : List ℕ} {system start altered : ℕ} {ps : List Samples
       → confirmedOf bytes ≡ record { system = system; start = start; walk = reached; number = 4; place = 0 }
   past-limit-refused hn some =
       let f = fresh system start hf in
-      let four = walk-many-lines reached (f .a-system) (line-after-in system start ps (f .a-line)) (omega arith) in
-      let barred : walkRefusal reached .number ≡ 0 → ⊥ = λ z. omega (arith, ap (λ (r : Refusal). r .number) four) in
+      let four = walk-many-lines reached (same-number (named-accepted system (reached .line) (f .a-system) (line-after-in system start ps (f .a-line)))) (omega arith) in
+      let barred : walkRefusal reached .number ≡ 0 → ⊥ = λ z. omega (arith, same-number four) in
       left (omega arith)
       ∙ body-barred (goingOn system start reached) rest refl (omega arith) barred
       ∙ ap (endedWith (goingOn system start reached)) four

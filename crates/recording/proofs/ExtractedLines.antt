@@ -6,29 +6,30 @@ use mathlib.Core.List.{List, [], _∷_, map}
 use mathlib.Core.List.{List·Memᴰ·head, List·Memᴰ·tail}
 use mathlib.Core.Bool.{Bool, true, false, cond, not}
 use lib.Dec.{eqb}
-use lib.ListN.{length}
+use lib.ListN.{length, getD, take, drop}
 use borrow.Author.Tests.{eqb-true}
 use Rattle.refusal.specs.declared.Refusal.{Refusal}
-use Rattle.refusal.specs.Answer.{orElse}
 use Rattle.refusal.proofs.Cases.{by-test}
-use Rattle.system.specs.declared.Walk.{Walk}
-use Rattle.system.specs.Figures.{lineLength, vOf, systemOf}
-use Rattle.system.specs.Walk.{advancedOf}
-use Rattle.line.specs.Due.{dueOf}
+use Rattle.words.specs.Bytes.{wordsOf}
+use Rattle.system.specs.declared.System.{System}
+use Rattle.system.specs.declared.walk.Walk.{Walk}
+use Rattle.system.specs.declared.walk.Judgement.{Judgement}
+use Rattle.system.specs.Figures.{lineLength, activeOffset, systemOf}
+use Rattle.system.specs.Walk.{lineWords, lineBytes, advancedOf, dueIn}
+use Rattle.system.proofs.Laws.{due-system}
 use Rattle.line.specs.Lengths.{bufferRefusal}
-use Rattle.line.specs.Samples.{Samples}
+use Rattle.line.specs.Samples.{Samples, activeLength}
 use Rattle.line.specs.Fit.{Measured}
-use Rattle.reader.specs.declared.Judgement.{Judgement}
-use Rattle.reader.specs.Judge.{dueIn, judgedOf}
-use Rattle.reader.proofs.Judged.{answered, judged-accepted}
-use Rattle.lent.specs.Bytes.{wordsOf, bytesRefusal, judgedBytes}
-use Rattle.lent.proofs.Theorems.{bytes-as-words}
-use Rattle.v210.specs.Row.{rowLength}
-use Rattle.programme.specs.Record.{takesRow}
-use Rattle.programme.specs.Extract.{extractRefusal, extractedOf, rowOfLine}
+use Rattle.line.proofs.Lengths.{measured-accepted}
+use Rattle.reader.specs.Judge.{judgedOf}
+use Rattle.reader.proofs.Judged.{number-judged, judged-accepted}
+use Rattle.bytewise.proofs.Theorems.{bytes-as-words}
+use Rattle.v210.specs.Row.{rowLength, packedOf}
+use Rattle.programme.specs.Extract.{extractedOf, givesRow, rowOfLine}
+use Rattle.programme.proofs.ExtractTheorems.{extract-as-judged}
 use Rattle.recording.specs.Play.{readAnswer, readBuffers, Played, andThen, play}
 use Rattle.recording.specs.Programme.{Extracted, rowThen, refusedBy, extractAll, rowOf, Whole}
-use Rattle.recording.proofs.OneLine.{measured-accepted, picture-buffers, buffers-measured, answered-accepted}
+use Rattle.recording.proofs.OneLine.{picture-buffers, buffers-measured, answered-accepted}
 use Rattle.recording.proofs.Rows.{active-part-of-samples}
 
 -- what is extracted of lines that are read so
@@ -41,16 +42,11 @@ row-before : (v : Bool) (row : List ℕ) (p : Samples) (rest : Played) → (v �
 row-before true row p rest same = refl
 row-before false row p rest same = ap (λ (r : List ℕ). rowThen true r (extractedAs rest)) (same refl)
 
--- a row of the right length is not refused: the answer is the byte judge's
-extracted-as-judged : (w : Walk) (bytes : List ℕ) → extractedOf w bytes rowLength ≡ judgedBytes w bytes
-unfolding extractedOf extractRefusal judgedBytes bytesRefusal orElse
-extracted-as-judged w bytes = refl
-
 -- ---- one line
-module _ (w : Walk) (b : Samples) (m : Measured b) (bytes : List ℕ) (size : length bytes ≡ 2 * lineLength (systemOf (w .system))) where
+module _ (w : Walk) (b : Samples) (m : Measured b) (bytes : List ℕ) (size : length bytes ≡ lineBytes w) where
   extracted-as-read : extractedOf w bytes rowLength ≡ readAnswer w b (wordsOf bytes)
   extracted-as-read =
-      extracted-as-judged w bytes ∙ bytes-as-words w bytes (lineLength (systemOf (w .system))) size
+      extract-as-judged w bytes ∙ bytes-as-words w bytes (lineWords w) size
       ∙ ap (λ (r : Refusal). judgedOf r w (wordsOf bytes)) (sym (measured-accepted b m))
 
   module _ (accepted : readAnswer w b (wordsOf bytes) .number ≡ 0) where
@@ -59,21 +55,24 @@ module _ (w : Walk) (b : Samples) (m : Measured b) (bytes : List ℕ) (size : le
     same-system =
         let buffers = bufferRefusal (length (b .y)) (length (b .cb)) (length (b .cr)) in
         ap (λ (j : Judgement). j .walk .system)
-        (judged-accepted buffers w (wordsOf bytes) (sym (answered buffers w (wordsOf bytes) (readAnswer w b (wordsOf bytes)) refl) ∙ accepted))
+        (judged-accepted (length (wordsOf bytes)) (lineWords w) buffers w (wordsOf bytes)
+        (sym (number-judged (length (wordsOf bytes)) (lineWords w) buffers w (wordsOf bytes)) ∙ accepted))
 
     -- the row of a V = 0 line is that of the samples read
-    row-as-read : vOf (systemOf (w .system)) (w .line) ≡ false → rowOfLine w bytes ≡ rowOf (readBuffers w b (wordsOf bytes))
-    unfolding rowOfLine dueIn dueOf
+    row-as-read : dueIn w (wordsOf bytes) .v ≡ false → rowOfLine w bytes ≡ rowOf (readBuffers w b (wordsOf bytes))
+    unfolding rowOfLine
     row-as-read v =
         let a = answered-accepted w b (wordsOf bytes) accepted in
-        active-part-of-samples (dueIn w (wordsOf bytes)) (wordsOf bytes) (a .size)
+        let system = due-system w (getD (wordsOf bytes) 3 0) in
+        ap (λ (s : System). packedOf (take activeLength (drop (activeOffset s) (wordsOf bytes)))) (sym system)
+        ∙ active-part-of-samples (dueIn w (wordsOf bytes)) (wordsOf bytes) (a .size ∙ ap lineLength (sym system))
         ∙ ap rowOf (sym (picture-buffers w (a .good) b m (wordsOf bytes) accepted v))
 
     row-kept : (rest : Played)
-        → rowThen (takesRow w) (rowOfLine w bytes) (extractedAs rest)
+        → rowThen (givesRow w bytes) (rowOfLine w bytes) (extractedAs rest)
         ≡ extractedAs (andThen (dueIn w (wordsOf bytes) .v) (readBuffers w b (wordsOf bytes)) rest)
-    unfolding takesRow dueIn dueOf
-    row-kept rest = row-before (vOf (systemOf (w .system)) (w .line)) (rowOfLine w bytes) (readBuffers w b (wordsOf bytes)) rest row-as-read
+    unfolding givesRow
+    row-kept rest = row-before (dueIn w (wordsOf bytes) .v) (rowOfLine w bytes) (readBuffers w b (wordsOf bytes)) rest row-as-read
 
 -- ---- all lines
 pub extracts-as-plays : (lines : List (List ℕ)) (w : Walk) (b : Samples) → Measured b → Whole (w .system) lines
@@ -84,7 +83,7 @@ extracts-as-plays (bytes ∷ rest) w b m whole =
     let size = whole bytes (List·Memᴰ·head refl) in
     let words = wordsOf bytes in
     let j = readAnswer w b words in
-    ap (λ (x : Judgement). cond (eqb (x .number) 0) (rowThen (takesRow w) (rowOfLine w bytes) (extractAll (x .walk) rest)) (refusedBy x))
+    ap (λ (x : Judgement). cond (eqb (x .number) 0) (rowThen (givesRow w bytes) (rowOfLine w bytes) (extractAll (x .walk) rest)) (refusedBy x))
     (extracted-as-read w b m bytes size)
     ∙ by-test (eqb (j .number) 0)
     (λ t.
@@ -92,7 +91,7 @@ extracts-as-plays (bytes ∷ rest) w b m whole =
     let measured = buffers-measured w (answered-accepted w b words z .good) b m words z in
     let same = same-system w b m bytes size z in
     simp t
-    (ap (rowThen (takesRow w) (rowOfLine w bytes))
+    (ap (rowThen (givesRow w bytes) (rowOfLine w bytes))
     (extracts-as-plays rest (j .walk) (readBuffers w b words) measured
     (λ line at. whole line (List·Memᴰ·tail at) ∙ ap (λ (n : ℕ). 2 * lineLength (systemOf n)) (sym same)))
     ∙ row-kept w b m bytes size z (play (j .walk) (readBuffers w b words) (map wordsOf rest))))

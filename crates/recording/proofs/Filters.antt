@@ -4,7 +4,7 @@ use Prim.Native.Nat.{ℕ, suc, zero, _+_, _*_, _<_, _≤_}
 use mathlib.Core.Path.{_≡_, refl, sym, ap, ap₂, subst, _∙_}
 use mathlib.Core.List.{List, [], _∷_, _++_, map, flatten, append-nil}
 use mathlib.Core.List.{List·Memᴰ, List·Memᴰ·not-nil, List·Memᴰ·cases-cons}
-use mathlib.Core.Bool.{Bool, true, false, cond, _&&_}
+use mathlib.Core.Bool.{false, cond}
 use mathlib.Core.Logic.{⊎-elim}
 use native.Mathlib.Omega.{arith}
 use lib.Dec.{eqb}
@@ -14,37 +14,34 @@ use borrow.Author.Tests.{eqb-true, eqb-false, eq-eqb, ne-eqb, le-ltb}
 use Rattle.refusal.proofs.Cases.{by-test}
 use Rattle.intake.specs.Arrival.{pieces, allPieces}
 use Rattle.intake.proofs.Pieces.{pieces-of-whole, pieces-joined}
-use Rattle.system.specs.declared.Walk.{Walk}
-use Rattle.system.specs.declared.Fresh.{Fresh}
+use Rattle.system.specs.declared.walk.Walk.{Walk}
 use Rattle.system.specs.Figures.{lineLength, systemOf}
-use Rattle.system.specs.Walk.{mostLines, freshOf}
-use Rattle.system.proofs.Laws.{fresh-accepted}
+use Rattle.system.specs.Walk.{mostLines, freshOf, lineBytes}
+use Rattle.system.proofs.Laws.{fresh-accepted, judgement-well}
 use Rattle.line.specs.Samples.{Samples}
-use Rattle.reader.specs.declared.Judgement.{Judgement}
-use Rattle.reader.proofs.Judged.{judgement-well}
-use Rattle.lent.specs.Bytes.{wordsOf, bytesOf}
-use Rattle.lent.proofs.Bytes.{bytes-length, word-at, words-back}
+use Rattle.system.specs.declared.walk.Judgement.{Judgement}
+use Rattle.words.specs.Bytes.{wordsOf, bytesOf}
+use Rattle.words.proofs.Bytes.{bytes-length, word-at, words-back}
 use Rattle.v210.specs.Row.{rowLength}
 use Rattle.confirmation.specs.declared.Run.{Run}
-use Rattle.confirmation.specs.Run.{headerLength, headerWord, headerSystem, headerStart, begunOf, lineBytes, judgedNext, through, bodyOf, confirmedOf}
+use Rattle.confirmation.specs.Run.{headerLength, headerWord, headerSystem, headerStart, begunOf, judgedNext, through, bodyOf, confirmedOf}
 use Rattle.confirmation.proofs.Bodies.{line-has-bytes}
 use Rattle.confirmation.proofs.Theorems.{header-more}
 use Rattle.programme.specs.declared.extractor.Extraction.{Extraction}
-use Rattle.programme.specs.declared.tape.Tape.{Tape}
-use Rattle.programme.specs.Record.{takesRow}
-use Rattle.programme.specs.Extract.{extractedOf, rowOfLine}
+use Rattle.reader.specs.Judge.{lineJudged}
+use Rattle.programme.specs.Extract.{givesRow, extractedOf, rowOfLine}
 use Rattle.programme.specs.Extraction.{extractedRun, extractionOf, stepped, runAfter, rowsGiven, linesIn, extractedProgramme}
 use Rattle.programme.specs.Tape.{begunTape, recordedProgramme}
 use Rattle.programme.proofs.ExtractTheorems.{extract-as-judged}
-use Rattle.recording.specs.Recording.{Recording, pictures}
+use Rattle.recording.specs.Recording.{Recording}
 use Rattle.recording.specs.Confirmed.{Holds}
 use Rattle.recording.specs.Programme.{Recorded, Extracted, extractAll, Whole}
 use Rattle.recording.specs.Filters.{Recordings, Copies, AllBytes, fileOf, ProgrammeTaken, ProgrammeRecorded, ExtractingConfirms, WrittenCopies, ProgrammeBack}
 use Rattle.recording.specs.Filters as filters
-use Rattle.recording.proofs.Theorems.{fresh, damaged-never-coincide}
+use Rattle.recording.proofs.Theorems.{fresh}
 use Rattle.recording.proofs.Programme.{rows-recorded, recording-extracted, rows-back}
-use Rattle.recording.proofs.TapedLines.{Sound, Splits, rows-taped}
-use Rattle.recording.proofs.TakenRows.{Ready, rows-on}
+use Rattle.recording.proofs.TapedLines.{Sound, rows-taped}
+use Rattle.recording.proofs.TakenRows.{rows-on}
 
 -- ---- extracting runs as confirming does
 step-judged : (r : Run) (piece : List ℕ) → r .number ≡ 0 → stepped r piece .run ≡ judgedNext r piece
@@ -89,9 +86,9 @@ module _ (system start : ℕ) where
 
   goes-on : (w : Walk) (line : List ℕ) → extractedOf w line rowLength .number ≡ 0
       → extractedRun (going w) line rowLength ≡ going (extractedOf w line rowLength .walk)
-  unfolding extractedOf
+  unfolding lineJudged
   goes-on w line z =
-      let e = judgement-well _ w _ z in
+      let e = judgement-well _ w _ _ z in
       ap (λ (j : Judgement). record { system = system; start = start; walk = j .walk; number = j .number; place = j .place }) e
       ∙ sym (ap (λ (j : Judgement). going (j .walk)) e)
 
@@ -100,7 +97,7 @@ module _ (system start : ℕ) where
   rows-as-extracted [] w = refl
   rows-as-extracted (line ∷ lines) w =
       let row = rowOfLine w line in
-      let takes = takesRow w in
+      let takes = givesRow w line in
       by-test (eqb (extractedOf w line rowLength .number) 0)
       (λ t.
       simp t

@@ -1,7 +1,7 @@
 -- The promises on one line, of the definitions that the calls' contracts cite. Assumes nothing.
 use Prim.Native.Nat.{ℕ, _+_, _≤_}
 use mathlib.Core.Path.{_≡_, refl, sym, ap, subst, _∙_}
-use mathlib.Core.List.{List, [], _∷_}
+use mathlib.Core.List.{List}
 use mathlib.Core.Bool.{true, false}
 use native.Mathlib.Omega.{arith}
 use lib.Dec.{eqb}
@@ -10,21 +10,21 @@ use Rattle.refusal.proofs.Cases.{by-test}
 use Rattle.timing.specs.Code.{legalOf, sevenOf, distanceOf, correctionOf}
 use Rattle.timing.specs.Report.{codeReportOf, bitTold, cleanReport}
 use Rattle.timing.proofs.Laws.{one-repair}
-use Rattle.system.specs.declared.Walk.{Walk}
+use Rattle.system.specs.declared.walk.Walk.{Walk}
 use Rattle.system.specs.Figures.{lineLength, savOffset, vOf, systemOf}
 use Rattle.system.proofs.Laws.{Good}
-use Rattle.line.specs.Due.{dueOf, flagsOf}
+use Rattle.system.specs.Due.{dueOf, flagsOf}
 use Rattle.line.specs.Samples.{Samples, samplesOf}
 use Rattle.line.specs.Fit.{Measured}
 use Rattle.line.specs.Damage.{Damaged, toldOf}
 use Rattle.line.proofs.Images.{repairsAt, undamaged}
-use Rattle.reader.specs.declared.Judgement.{Judgement}
-use Rattle.reader.specs.Judge.{acceptedAt, refusedAt}
+use Rattle.system.specs.declared.walk.Judgement.{Judgement}
+use Rattle.system.specs.Judgement.{acceptedAt}
 use Rattle.writer.specs.Write.{writeRefusal, lineAfter}
 use Rattle.writer.proofs.Theorems.{accepted-writes-the-line}
-use Rattle.recording.specs.Recording.{TwoInverted, invertedBit}
+use Rattle.recording.specs.Recording.{invertedBit}
 use Rattle.recording.specs.Play.{readAnswer, readBuffers}
-use Rattle.recording.proofs.OneLine.{Accepted, answered-accepted}
+use Rattle.recording.proofs.OneLine.{answered-accepted}
 use Rattle.recording.proofs.Lines.{line-read, line-accepted, reported, clean-reported, samples-returned}
 use Rattle.recording.proofs.Theorems.{writable, image}
 
@@ -39,18 +39,19 @@ module _ (w : Walk) (good : Good w) (b : Samples) (m : Measured b) where
       → writeRefusal (w .system) (w .line) p (length buffer) .number ≡ 0
       → Damaged (dueOf (systemOf (w .system)) (w .line)) (lineAfter (w .system) (w .line) p buffer) read eav sav → eav ≤ 1 → sav ≤ 1
       → (readAnswer w b read
-      ≡ acceptedAt w
+      ≡ acceptedAt w (dueOf (systemOf (w .system)) (w .line))
       (record {
         eav = toldOf (flagsOf (dueOf (systemOf (w .system)) (w .line)) true) (getD read 3 0);
         sav = toldOf (flagsOf (dueOf (systemOf (w .system)) (w .line)) false) (getD read (savOffset (systemOf (w .system)) + 3) 0);
       }))
       × (vOf (systemOf (w .system)) (w .line) ≡ false → readBuffers w b read ≡ p)
+  unfolding dueOf
   damaged-line-reads-back p buffer read eav sav written dam he hs =
       let whole = accepted-writes-the-line (w .system) (w .line) p buffer written .1 in
       let size = length (lineAfter (w .system) (w .line) p buffer) in
       let low : size ≤ lineLength (systemOf (w .system)) = omega arith in (
         line-read w good b m p buffer read eav sav size written low dam whole he hs
-            ∙ ap (acceptedAt w) (reported w good b m p buffer read eav sav size written low dam whole he hs),
+            ∙ ap (acceptedAt w (dueOf (systemOf (w .system)) (w .line))) (reported w good b m p buffer read eav sav size written low dam whole he hs),
         samples-returned w good b m p buffer read eav sav size written low dam whole he hs,
       )
 
@@ -70,8 +71,9 @@ module _ (w : Walk) (good : Good w) (b : Samples) (m : Measured b) where
 
   -- Reading back a written line: accepted, both codes told as clean, and the samples are the written ones.
   pub written-line-reads-back : (p : Samples) (buffer : List ℕ) → writeRefusal (w .system) (w .line) p (length buffer) .number ≡ 0
-      → (readAnswer w b (lineAfter (w .system) (w .line) p buffer) ≡ acceptedAt w cleanReport)
+      → (readAnswer w b (lineAfter (w .system) (w .line) p buffer) ≡ acceptedAt w (dueOf (systemOf (w .system)) (w .line)) cleanReport)
       × (vOf (systemOf (w .system)) (w .line) ≡ false → readBuffers w b (lineAfter (w .system) (w .line) p buffer) ≡ p)
+  unfolding dueOf
   written-line-reads-back p buffer written =
       let d = dueOf (systemOf (w .system)) (w .line) in
       let line = lineAfter (w .system) (w .line) p buffer in
@@ -80,7 +82,7 @@ module _ (w : Walk) (good : Good w) (b : Samples) (m : Measured b) where
       let low : length line ≤ lineLength (systemOf (w .system)) = omega arith in
       let itself : Damaged d line line 0 0 = subst (λ (l : List ℕ). Damaged d l l 0 0) (sym is-line) (undamaged d p) in (
         line-read w good b m p buffer line 0 0 (length line) written low itself whole (omega arith) (omega arith)
-            ∙ ap (acceptedAt w) (clean-reported w good b m p buffer line 0 0 (length line) written low itself whole (omega arith) (omega arith) refl refl),
+            ∙ ap (acceptedAt w (dueOf (systemOf (w .system)) (w .line))) (clean-reported w good b m p buffer line 0 0 (length line) written low itself whole (omega arith) (omega arith) refl refl),
         samples-returned w good b m p buffer line 0 0 (length line) written low itself whole (omega arith) (omega arith),
       )
 

@@ -4,9 +4,9 @@ use mathlib.Core.Path.{_≡_, sym, ap, subst, _∙_}
 use mathlib.Core.List.{List, map}
 use native.Mathlib.Omega.{arith}
 use Prim.Native.Nat.{ℕ}
-use Rattle.system.specs.declared.Walk.{Walk}
+use Rattle.system.specs.declared.walk.Walk.{Walk}
 use Rattle.system.specs.Walk.{freshOf}
-use Rattle.lent.specs.Bytes.{wordsOf}
+use Rattle.words.specs.Bytes.{wordsOf}
 use Rattle.recording.specs.Play.{play}
 use Rattle.recording.specs.Programme.{Recorded, extractAll, rowOf, RowsRecorded, RecordingExtracted, RowsBack}
 use Rattle.recording.specs.Promise.{walkAfter}

@@ -10,29 +10,28 @@ use native.Mathlib.Omega.{arith}
 use lib.ListN.{length, getD}
 use Rattle.refusal.proofs.Cases.{by-test}
 use Rattle.timing.specs.Report.{cleanReport}
-use Rattle.system.specs.declared.Walk.{Walk}
-use Rattle.system.specs.Figures.{lineLength, vOf, systemOf}
+use Rattle.system.specs.declared.walk.Walk.{Walk}
+use Rattle.system.specs.Figures.{lineLength, systemOf}
 use Rattle.system.specs.Walk.{mostLines, advancedOf}
-use Rattle.system.proofs.Laws.{Good, accepted-good}
-use Rattle.line.specs.declared.Due.{Due}
-use Rattle.line.specs.Due.{dueOf}
+use Rattle.system.proofs.Laws.{Good, accepted-good, judgement-number}
+use Rattle.system.specs.declared.due.Due.{Due}
+use Rattle.system.specs.Due.{dueOf}
 use Rattle.line.specs.Samples.{Samples, lineOf}
 use Rattle.line.specs.Fit.{Fit}
 use Rattle.line.specs.Damage.{Damaged}
 use Rattle.line.proofs.Damaged.{line-length}
 use Rattle.line.proofs.Images.{undamaged}
-use Rattle.reader.proofs.Judged.{judgement-number}
 use Rattle.writer.specs.Write.{writeRefusal, lineAfter}
 use Rattle.writer.proofs.Places.{accepted-inside}
 use Rattle.writer.proofs.Theorems.{written-samples-fit, accepted-writes-the-line}
-use Rattle.lent.specs.Bytes.{wordsOf, bytesOf}
-use Rattle.lent.proofs.Bytes.{bytes-length, words-back}
+use Rattle.words.specs.Bytes.{wordsOf, bytesOf}
+use Rattle.words.proofs.Bytes.{bytes-length, words-back}
 use Rattle.programme.specs.Record.{takesRow, rowSamples, recordRefusal, recordedOf, lineBytesOf, lineBytesAfter, Recordable}
-use Rattle.programme.proofs.Records.{row-measured}
+use Rattle.line.proofs.Places.{part-measured}
+use Rattle.v210.specs.Row.{unpackedOf}
 use Rattle.programme.proofs.RecordTheorems.{record-accepted, recorded-walk}
 use Rattle.recording.specs.Recording.{Recording, end, next, pictures}
-use Rattle.recording.specs.Programme.{Recorded, rowOf, Whole}
-use Rattle.recording.specs.Programme.{end as no-line, next as one-line}
+use Rattle.recording.specs.Programme.{Recorded, rowOf, Whole, end as no-line, next as one-line}
 use Rattle.recording.proofs.Rows.{row-of-samples}
 
 -- What is told of lines that were recorded of rows, from a walk on.
@@ -51,7 +50,7 @@ module _ (w : Walk) (row buffer : List ℕ) (accepted : recordedOf w row (length
 
   none-refused : recordRefusal w row (length buffer) .number ≡ 0
   unfolding recordedOf
-  none-refused = judgement-number _ w cleanReport accepted
+  none-refused = sym (judgement-number _ w _ cleanReport) ∙ accepted
 
   fit-to-record : Recordable w row (length buffer)
   fit-to-record = record-accepted w row (length buffer) none-refused
@@ -59,7 +58,7 @@ module _ (w : Walk) (row buffer : List ℕ) (accepted : recordedOf w row (length
   good : Good w
   good = accepted-good w (fit-to-record .walk)
 
-  pub walk-after : recordedOf w row (length buffer) .walk ≡ advancedOf w cleanReport
+  pub walk-after : recordedOf w row (length buffer) .walk ≡ advancedOf w due cleanReport
   walk-after = recorded-walk w row buffer none-refused .0
 
   -- the line that is left
@@ -79,10 +78,10 @@ module _ (w : Walk) (row buffer : List ℕ) (accepted : recordedOf w row (length
 
   -- the writer takes the samples
   fits : Fit due (rowSamples row)
-  unfolding dueOf takesRow
+  unfolding takesRow
   fits =
       record {
-        lengths = row-measured row;
+        lengths = part-measured (unpackedOf row);
         range = λ v. accepted-inside (rowSamples row) due (fit-to-record .samples (ap not v)) v;
       }
 
@@ -111,14 +110,14 @@ module _ (w : Walk) (row buffer : List ℕ) (accepted : recordedOf w row (length
 
   -- so it goes before the lines behind it
   module _ (bytes : (i : ℕ) → i < length row → getD row i 0 < 256) (rows lines : List (List ℕ))
-      (rest : Told (advancedOf w cleanReport) rows lines) where
+      (rest : Told (advancedOf w due cleanReport) rows lines) where
     abbrev taken-rows : List (List ℕ)
     taken-rows = cond (takesRow w) (row ∷ rows) rows
 
     pictures-taken : pictures (w .system) (w .line) (rowSamples row ∷ rest .samples) ≡ map rowSamples taken-rows
-    unfolding takesRow advancedOf
+    unfolding takesRow advancedOf dueOf
     pictures-taken =
-        by-test (vOf (systemOf (w .system)) (w .line))
+        by-test (due .v)
         (λ v. simp v (rest .taken)) (λ v. simp v (ap (λ (ps : List Samples). rowSamples row ∷ ps) (rest .taken)))
 
     rows-come-back : map rowOf (map rowSamples taken-rows) ≡ taken-rows
@@ -127,7 +126,7 @@ module _ (w : Walk) (row buffer : List ℕ) (accepted : recordedOf w row (length
         (λ t. simp t (ap₂ (λ (r : List ℕ) (rs : List (List ℕ)). r ∷ rs) (row-comes-back bytes t) (rest .back))) (λ f. simp f (rest .back))
 
     line-more : Told w taken-rows (lineBytesAfter w row buffer ∷ lines)
-    unfolding advancedOf
+    unfolding advancedOf dueOf
     line-more =
         record {
           samples = rowSamples row ∷ rest .samples;

@@ -1,8 +1,8 @@
 -- A row of recordings is one: a confirmed file holds a recording, and the next begins with the line that it awaits. Assumes nothing.
 use Prim.Native.Nat.{ℕ, _+_}
 use mathlib.Core.Path.{_≡_, refl, sym, ap, subst, _∙_}
-use mathlib.Core.Bool.{true, _&&_}
-use mathlib.Core.List.{List, [], _∷_, _++_, map, flatten, append-nil, append-assoc, map-append, List·Memᴰ, List·Memᴰ·not-nil, List·Memᴰ·append-cases}
+use mathlib.Core.Bool.{true}
+use mathlib.Core.List.{List, [], _∷_, _++_, map, flatten, append-nil, append-assoc, map-append, List·Memᴰ·not-nil, List·Memᴰ·append-cases}
 use mathlib.Core.Logic.{⊎-elim}
 use native.Mathlib.Omega.{arith}
 use lib.Dec.{eqb}
@@ -10,7 +10,7 @@ use lib.ListN.{drop}
 use borrow.Author.Tests.{eqb-true, eq-eqb}
 use Rattle.refusal.proofs.Cases.{and-true}
 use Rattle.line.specs.Samples.{Samples}
-use Rattle.lent.specs.Bytes.{wordsOf}
+use Rattle.words.specs.Bytes.{wordsOf}
 use Rattle.confirmation.specs.declared.Run.{Run}
 use Rattle.confirmation.specs.Run.{headerLength, headerSystem, headerStart, begunOf, confirmedOf}
 use Rattle.confirmation.specs.Totals.{followsOn}

@@ -1,49 +1,20 @@
--- The samples of a row in their places, and the row that the samples of a line give: a row comes back from its samples. Assumes nothing.
-use Prim.Native.Nat.{ℕ, _+_, _*_, _/_, _%_, _<_}
+-- Rows and samples: the row of a row's samples, and of the samples that a line's active part gives. Assumes nothing.
+use Prim.Native.Nat.{ℕ, _<_}
 use mathlib.Core.Path.{_≡_, sym, ap, _∙_}
 use mathlib.Core.List.{List}
 use native.Mathlib.Omega.{arith}
-use lib.Dec.{eqb}
 use lib.ListN.{length, getD, take, drop, length-take, length-drop}
 use lib.Seq.{getD-take, getD-drop}
-use borrow.Author.Tests.{eqb-true, eqb-false}
-use Rattle.refusal.proofs.Cases.{by-test}
+use Rattle.words.proofs.Tabs.{is-tab}
+use Rattle.system.specs.declared.due.Due.{Due}
 use Rattle.system.specs.Figures.{lineLength, activeOffset}
 use Rattle.system.proofs.Laws.{line-is-parts}
-use Rattle.line.specs.declared.Due.{Due}
-use Rattle.line.specs.Samples.{activeLength, yLength, cLength, sampleAt, samplesOf}
-use Rattle.line.proofs.Tabs.{getD-tab, is-tab}
-use Rattle.line.proofs.Places.{taken-in-place}
-use Rattle.writer.proofs.Places.{cb-at, cr-at, y-at}
+use Rattle.line.specs.Samples.{activeLength, sampleAt, samplesOf}
+use Rattle.line.proofs.Places.{taken-in-place, part-in-place}
 use Rattle.v210.specs.Row.{rowLength, unpackedOf, packedOf, spareRefusal}
 use Rattle.v210.proofs.Theorems.{unpacked-length, row-back}
-use Rattle.programme.specs.Record.{partSamples, rowSamples}
+use Rattle.programme.specs.Record.{rowSamples}
 use Rattle.recording.specs.Programme.{rowOf}
-
--- "CB, Y, CR, Y repeated": the samples of an active part stand in its places
-pub part-in-place : (part : List ℕ) (j : ℕ) → j < activeLength → sampleAt (partSamples part) j ≡ getD part j 0
-part-in-place part j l =
-    by-test (eqb (j % 2) 1)
-    (λ t.
-    let q = eqb-true (j % 2) 1 t in
-    let back : 0 + (2 * (j / 2) + 1) ≡ j = omega arith in
-    sym (y-at (partSamples part) (j / 2) j (omega arith))
-    ∙ getD-tab (λ k. getD part (0 + (2 * k + 1)) 0) yLength (j / 2) (omega arith) ∙ ap (λ (n : ℕ). getD part n 0) back)
-    (λ f.
-    let q = eqb-false (j % 2) 1 f in
-    by-test (eqb (j % 4) 0)
-    (λ t.
-    let r = eqb-true (j % 4) 0 t in
-    let back : 0 + 4 * (j / 4) ≡ j = omega arith in
-    sym (cb-at (partSamples part) (j / 4) j (omega arith))
-    ∙ getD-tab (λ k. getD part (0 + 4 * k) 0) cLength (j / 4) (omega arith) ∙ ap (λ (n : ℕ). getD part n 0) back)
-    (λ g.
-    let back : 0 + (4 * (j / 4) + 2) ≡ j = third q (eqb-false (j % 4) 0 g) in
-    sym (cr-at (partSamples part) (j / 4) j (omega (arith, back)))
-    ∙ getD-tab (λ k. getD part (0 + (4 * k + 2)) 0) cLength (j / 4) (omega arith) ∙ ap (λ (n : ℕ). getD part n 0) back))
-  where
-    third : (j % 2 ≡ 1 → ⊥) → (j % 4 ≡ 0 → ⊥) → 0 + (4 * (j / 4) + 2) ≡ j
-    third odd zero = omega arith
 
 module _ (row : List ℕ) where
   -- a row of bytes with no spare bit set is the row of its samples

@@ -2,7 +2,8 @@
 use mathlib.Core.Path.{refl}
 use Rattle.timing.specs.Code.{fourthOf, correctionOf}
 use Rattle.system.specs.Figures.{vOf, fOf}
-use Rattle.line.specs.Due.{dueOf, flagsOf, dueAt}
+use Rattle.system.specs.Due.{dueOf, flagsOf}
+use Rattle.line.specs.Offsets.{dueAt}
 use Rattle.line.specs.Fault.{faultWhere}
 use Rattle.serial.proofs.Theorems as serial
 use Rattle.recording.specs.Marked.{Marked}

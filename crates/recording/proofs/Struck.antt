@@ -9,8 +9,9 @@ use lib.Dec.{ltb}
 use lib.ListN.{length, getD}
 use Rattle.system.specs.Figures.{activeOffset, systemOf}
 use Rattle.system.proofs.Laws.{line-is-parts}
-use Rattle.line.specs.Due.{dueOf, dueAt}
-use Rattle.line.specs.Samples.{Samples, lineOf}
+use Rattle.system.specs.Due.{dueOf}
+use Rattle.line.specs.Offsets.{dueAt}
+use Rattle.line.specs.Samples.{Samples}
 use Rattle.line.specs.Damage.{Near, Damaged, DamagedUpTo, struck}
 use Rattle.line.proofs.Images.{every-kind-of-damage}
 use Rattle.writer.specs.Write.{writeRefusal, lineAfter}

@@ -1,7 +1,7 @@
 -- Of good rows nothing is refused, as long as there is room for lines: each line is recordable, and at most 625 are written for a row.
 -- Assumes nothing.
 use Prim.Native.Nat.{ℕ, zero, suc, _+_, _*_, _<_, _≤_}
-use mathlib.Core.Path.{_≡_, refl, sym, ap, subst, _∙_}
+use mathlib.Core.Path.{_≡_, refl, sym, ap, _∙_}
 use mathlib.Core.List.{List, [], _∷_}
 use mathlib.Core.List.{List·Memᴰ, List·Memᴰ·head, List·Memᴰ·tail}
 use mathlib.Core.Bool.{Bool, true, false, cond, not, true≢false, _&&_}
@@ -12,31 +12,31 @@ use borrow.Author.Tests.{eq-eqb, le-ltb}
 use Rattle.refusal.specs.declared.Refusal.{Refusal}
 use Rattle.refusal.proofs.Cases.{by-test, and-true, not-true}
 use Rattle.refusal.proofs.Firsts.{first-none}
-use Rattle.timing.specs.Report.{cleanReport}
-use Rattle.system.specs.declared.Walk.{Walk}
+use Rattle.system.specs.declared.walk.Walk.{Walk}
 use Rattle.system.specs.Figures.{lineLength, systemOf}
-use Rattle.system.specs.Walk.{mostLines, walkRefusal, advancedOf}
+use Rattle.system.specs.Walk.{mostLines, advancedOf}
 use Rattle.system.proofs.Laws.{Good, good-accepted}
-use Rattle.line.specs.declared.Due.{Due}
+use Rattle.system.specs.declared.due.Due.{Due}
 use Rattle.line.specs.Fault.{leastSample, mostSample}
-use Rattle.line.specs.Samples.{activeLength}
-use Rattle.reader.specs.declared.Judgement.{Judgement}
+use Rattle.line.specs.Samples.{activeLength, partSamples}
+use Rattle.system.specs.declared.walk.Judgement.{Judgement}
+use Rattle.words.specs.Words.{mostWord}
 use Rattle.writer.specs.Write.{outsideAt, sampleRefusal}
 use Rattle.v210.specs.Row.{packedOf}
 use Rattle.v210.proofs.Theorems.{packed-length, spare-none, packed-accepted, samples-back}
 use Rattle.programme.specs.declared.tape.Tape.{Tape}
-use Rattle.programme.specs.Record.{takesRow, endsFrame, partSamples, Recordable}
+use Rattle.line.proofs.Places.{part-in-place}
+use Rattle.programme.specs.Record.{takesRow, endsFrame, Recordable}
 use Rattle.programme.specs.Tape.{turnsAt, turnedOf, tapedOf, endsAt, Wrote, onto, endOf, mostTurns, recordRows}
 use Rattle.programme.proofs.Records.{recorded-accepted}
 use Rattle.programme.proofs.RecordTheorems.{recordable-accepted}
 use Rattle.recording.specs.Filters.{GoodRow, GoodRowMet}
-use Rattle.recording.proofs.Rows.{part-in-place}
 use Rattle.recording.proofs.TapedLines.{Sound, taped, advanced, still-sound, turned-walk, sound-there, line-there, next-tape}
 
 -- ---- good rows there are: the row of any samples from 4 to 1019
 module _ (part : List ℕ) (size : length part ≡ activeLength)
     (range : (place : ℕ) → place < activeLength → (leastSample ≤ getD part place 0) × (getD part place 0 ≤ mostSample)) where
-  small : (place : ℕ) → place < activeLength → getD part place 0 ≤ 1023
+  small : (place : ℕ) → place < activeLength → getD part place 0 ≤ mostWord
   small place l = omega (arith, range place l .1)
 
   inside : (place : ℕ) → place < activeLength → outsideAt (partSamples part) place ≡ 0

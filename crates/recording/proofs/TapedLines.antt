@@ -1,37 +1,33 @@
 -- What a tape writes of rows are recordings of those rows: each line is one that an accepted call of `record` leaves, a next recording begins
 -- with a fresh walk, and within a frame there is always a line that takes the row. Assumes nothing.
-use Prim.Native.Nat.{ℕ, zero, suc, _+_, _*_, _<_, _≤_}
+use Prim.Native.Nat.{ℕ, zero, suc, _+_, _*_}
 use mathlib.Core.Path.{_≡_, refl, sym, ap, subst, _∙_}
-use mathlib.Core.List.{List, [], _∷_, _++_, append-nil}
+use mathlib.Core.List.{List, [], _∷_, _++_}
 use mathlib.Core.List.{List·Memᴰ, List·Memᴰ·head, List·Memᴰ·tail}
-use mathlib.Core.Bool.{Bool, true, false, cond, not, _&&_, _||_, true≢false}
+use mathlib.Core.Bool.{Bool, true, false, cond, not, _&&_, _||_}
 use native.Mathlib.Omega.{arith}
 use lib.Dec.{T, ltb, leb, eqb, le→leb}
-use lib.ListN.{length, getD}
-use borrow.Author.Tests.{eqb-true, eqb-false, eq-eqb, ne-eqb}
-use Rattle.refusal.proofs.Cases.{by-test, and-true, not-true, not-false}
+use lib.ListN.{length}
+use borrow.Author.Tests.{eqb-true, eqb-false, eq-eqb}
+use Rattle.refusal.proofs.Cases.{by-test, and-true, not-true}
 use Rattle.timing.specs.Report.{cleanReport}
 use Rattle.timing.proofs.Every.{implies, meet, every, lift}
 use Rattle.system.specs.declared.System.{System}
 use Rattle.system.specs.declared.System.the-variants.{Lines525, Lines625}
-use Rattle.system.specs.declared.Walk.{Walk}
-use Rattle.system.specs.declared.Fresh.{Fresh}
-use Rattle.system.specs.Figures.{lineLength, lineCount, vOf, isSystem, systemOf, nextLine}
-use Rattle.system.specs.Walk.{isLine, freshOf, advancedOf}
-use Rattle.system.proofs.Laws.{next-line-in, fresh-accepted, between-first, between-last}
-use Rattle.line.specs.Due.{dueOf}
+use Rattle.system.specs.declared.walk.Walk.{Walk}
+use Rattle.system.specs.declared.walk.Fresh.{Fresh}
+use Rattle.system.specs.Figures.{lineCount, vOf, isSystem, systemOf, nextLine}
+use Rattle.system.specs.Walk.{isLine, freshOf, advancedOf, lineBytes}
+use Rattle.system.proofs.Laws.{next-line-in, fresh-accepted, between-first, between-last, judgement-number}
+use Rattle.system.specs.Due.{dueOf}
 use Rattle.line.specs.Samples.{lineOf}
 use Rattle.line.proofs.Damaged.{line-length}
-use Rattle.lent.specs.Bytes.{bytesOf}
-use Rattle.lent.proofs.Bytes.{bytes-length}
-use Rattle.confirmation.specs.Run.{lineBytes}
-use Rattle.reader.proofs.Judged.{judgement-number}
+use Rattle.words.proofs.Bytes.{bytes-length}
 use Rattle.programme.specs.declared.tape.Tape.{Tape}
-use Rattle.programme.specs.Record.{takesRow, endsFrame, rowSamples, recordedOf, lineBytesOf, lineBytesAfter}
+use Rattle.programme.specs.Record.{dueAtWalk, takesRow, endsFrame, rowSamples, recordedOf, lineBytesOf}
 use Rattle.programme.specs.Tape.{turnsAt, turnedOf, tapedOf, endsAt, Wrote, nothingMore, lineThen, nextFrom, onto, endOf, mostTurns, recordRows}
 use Rattle.programme.proofs.RecordTheorems.{record-accepted}
-use Rattle.recording.specs.Programme.{Recorded}
-use Rattle.recording.specs.Programme.{end as no-line, next as one-line}
+use Rattle.recording.specs.Programme.{Recorded, end as no-line, next as one-line}
 use Rattle.recording.specs.Filters.{Recordings, none, one, AllBytes}
 use Rattle.recording.proofs.RecordedLines.{walk-after, line-left}
 
@@ -94,7 +90,7 @@ module _ (t : Tape) (row : List ℕ) (room : ℕ) where
       unfolding recordedOf
       fits =
           let number = sym (ap (λ (x : Tape). x .number) taped) ∙ accepted in
-          record-accepted (t .walk) row room (judgement-number _ (t .walk) cleanReport number) .whole ∙ sym line-size
+          record-accepted (t .walk) row room (sym (judgement-number _ (t .walk) _ cleanReport) ∙ number) .whole ∙ sym line-size
 
       line-accepted : recordedOf (t .walk) row (length (lineBytesOf (t .walk) row)) .number ≡ 0
       line-accepted =
@@ -103,11 +99,11 @@ module _ (t : Tape) (row : List ℕ) (room : ℕ) where
       walk-of : after .walk ≡ recordedOf (t .walk) row (length (lineBytesOf (t .walk) row)) .walk
       walk-of = ap (λ (x : Tape). x .walk) taped ∙ ap (λ (n : ℕ). recordedOf (t .walk) row n .walk) fits
 
-      pub advanced : after .walk ≡ advancedOf (t .walk) cleanReport
+      pub advanced : after .walk ≡ advancedOf (t .walk) (dueAtWalk (t .walk)) cleanReport
       advanced = walk-of ∙ walk-after (t .walk) row (lineBytesOf (t .walk) row) line-accepted
 
       pub still-sound : (system : ℕ) → Sound system t → Sound system after
-      unfolding advancedOf
+      unfolding advancedOf dueOf
       still-sound system s =
           rw advanced
           (record { same = s .same; a-system = s .a-system; a-line = next-line-in (t .walk .system) (t .walk .line) (s .a-line) })
@@ -183,7 +179,7 @@ module _ (system room : ℕ) (row : List ℕ) (bytes : AllBytes row) (rows : Lis
       (lineThen (lineBytesOf (u .walk) row) (cond (takesRow (u .walk)) (rest (tapedOf u row room)) (onto room k (tapedOf u row room) row rest)))
       (nothingMore (tapedOf u row room)))
       (row ∷ rows)
-  unfolding reaches takesRow advancedOf
+  unfolding reaches takesRow advancedOf dueOf
   mutual-line k u s z reach more =
       let v = tapedOf u row room in
       by-test (eqb (v .number) 0)

@@ -1,43 +1,38 @@
 -- Demand 3: what went in is what reads back, and nothing else is ever confirmed. By induction over the lines of a recording; a line's
 -- words are looked at nowhere here. Assumes nothing.
-use Prim.Native.Nat.{ℕ, zero, suc, _+_, _*_, _<_, _≤_}
+use Prim.Native.Nat.{ℕ, suc, _+_, _*_, _<_, _≤_}
 use mathlib.Core.Path.{_≡_, refl, sym, ap, subst, _∙_}
 use mathlib.Core.List.{List, [], _∷_, _++_, append-nil}
 use mathlib.Core.Bool.{Bool, true, false, cond}
-use mathlib.Core.Logic.{_⊎_, inl, inr, ⊎-elim}
 use native.Mathlib.Omega.{arith}
 use native.Mathlib.Nat.{zero-add}
 use lib.Dec.{eqb}
 use lib.ListN.{length, getD}
-use borrow.Author.Tests.{eq-eqb, ne-eqb, eqb-true, eqb-false}
-use Rattle.refusal.specs.declared.Refusal.{Refusal}
-use Rattle.refusal.specs.Answer.{none}
+use borrow.Author.Tests.{ne-eqb, eqb-true, eqb-false}
 use Rattle.refusal.proofs.Cases.{by-test}
-use Rattle.timing.specs.declared.Report.{Report}
 use Rattle.timing.specs.Code.{correctionOf}
 use Rattle.timing.specs.Report.{codeReportOf}
 use Rattle.timing.proofs.Laws.{one-repair}
-use Rattle.system.specs.declared.Walk.{Walk}
-use Rattle.system.specs.Figures.{lineLength, savOffset, activeOffset, vOf, isSystem, systemOf, nextLine}
-use Rattle.system.specs.Walk.{mostLines, isLine, freshOf, advancedOf}
-use Rattle.system.proofs.Laws.{Good, next-line-in, line-is-parts, fresh-accepted, fresh-no-line, fresh-no-system}
-use Rattle.line.specs.declared.Due.{Due}
-use Rattle.line.specs.Due.{dueOf}
+use Rattle.system.specs.declared.walk.Walk.{Walk}
+use Rattle.system.specs.Figures.{lineLength, savOffset, activeOffset, isSystem, systemOf, nextLine}
+use Rattle.system.specs.Walk.{mostLines, isLine, freshOf, dueIn}
+use Rattle.system.proofs.Laws.{Good, next-line-in, line-is-parts, fresh-accepted, accepted-named}
+use Rattle.system.proofs.Theorems.{fresh-number}
+use Rattle.system.specs.declared.due.Due.{Due}
+use Rattle.system.specs.Due.{dueOf}
 use Rattle.line.specs.Fault.{wordRefusal}
-use Rattle.line.specs.Samples.{Samples, lineOf, samplesOf}
-use Rattle.line.specs.Fit.{Measured, Fit}
-use Rattle.line.specs.Damage.{Damaged, DamagedUpTo}
-use Rattle.line.proofs.Damaged.{Proper, line-length, damaged-accepted, eav-counted, sav-counted, two-in-eav, two-in-sav, samples-unchanged}
+use Rattle.line.specs.Samples.{Samples, samplesOf}
+use Rattle.line.specs.Fit.{Measured}
+use Rattle.line.specs.Damage.{Damaged}
+use Rattle.line.proofs.Damaged.{two-in-eav, two-in-sav}
 use Rattle.line.proofs.Places.{taken-measured}
 use Rattle.line.proofs.Images.{repairsAt, accepted-fit, accepted-image}
-use Rattle.reader.specs.declared.Judgement.{Judgement}
-use Rattle.reader.specs.Judge.{dueIn, reportOf, acceptedAt, refusedAt}
+use Rattle.system.specs.Judgement.{refusedAt}
 use Rattle.writer.specs.Write.{writeRefusal, lineAfter}
-use Rattle.writer.specs.Fit.{Writable}
 use Rattle.writer.proofs.Theorems.{written-samples-fit, accepted-writes-the-line}
 use Rattle.recording.specs.Recording.{Recording, end, next, pictures, lineAfterAll, TwoInverted, in-eav, in-sav}
 use Rattle.recording.specs.Play.{readAnswer, readBuffers, Played, andThen, stoppedBy, play}
-use Rattle.recording.proofs.OneLine.{picture-buffers, blank-buffers, buffers-measured, Accepted, answered-accepted}
+use Rattle.recording.proofs.OneLine.{due-at-walk, buffers-measured, Accepted, answered-accepted}
 use Rattle.recording.proofs.Lines.{at, proper, fit, of-line, line-accepted, plays-on, refused-there, stops}
 
 abbrev after : List Samples → Played → Played
@@ -76,8 +71,8 @@ through {system} (next {line = line} {eav = eav} {sav = sav} {altered = altered}
       rest-of .0,
       rest-of .1,
       plays-on w good b m p buffer read eav sav size written low dam whole he hs' (reads ++ rest)
-          ∙ ap (andThen (vOf (systemOf system) line) p) (rest-of .2)
-          ∙ kept-before (vOf (systemOf system) line) p (pictures system (nextLine (systemOf system) line) ps) _
+          ∙ ap (andThen (dueOf (systemOf system) line .v) p) (rest-of .2)
+          ∙ kept-before (dueOf (systemOf system) line .v) p (pictures system (nextLine (systemOf system) line) ps) _
           ∙ rw (e, f),
     )
 
@@ -89,14 +84,8 @@ pub record Fresh (system start : ℕ) : Type 0 where
 
 pub fresh : (system start : ℕ) → freshOf system start .number ≡ 0 → Fresh system start
 fresh system start e =
-    by-test (isSystem system)
-    (λ s. by-test (isLine system start)
-    (λ l. record { a-system = s; a-line = l; walk = ap (λ f. f .walk) (fresh-accepted system start s l) })
-    (λ l. absurd (never 2 (λ z. omega arith) (ap (λ f. f .number) (fresh-no-line system start s l)))))
-    (λ s. absurd (never 1 (λ z. omega arith) (ap (λ f. f .number) (fresh-no-system system start s))))
-  where
-    never : (n : ℕ) → (n ≡ 0 → ⊥) → freshOf system start .number ≡ n → ⊥
-    never n positive q = positive (sym q ∙ e)
+    let named = accepted-named system start (sym (fresh-number system start) ∙ e) in
+    record { a-system = named .a-system; a-line = named .a-line; walk = ap (λ f. f .walk) (fresh-accepted system start (named .a-system) (named .a-line)) }
 
 -- the walk after a recording is one that refuses no line, as long as there is room for one more
 pub line-after-in : (system line : ℕ) (ps : List Samples) → isLine system line ≡ true → isLine system (lineAfterAll system line ps) ≡ true
@@ -110,7 +99,7 @@ few (next buffer written dam he hs more) = omega (arith, few more)
 -- a line with two inverted bits in a code is refused there
 pub two-inverted-line-refused : {w : Walk} {p : Samples} {read : List ℕ} {place : ℕ} → Good w → (b : Samples) → Measured b
     → TwoInverted (w .system) (w .line) p read place → readAnswer w b read ≡ refusedAt w (record { number = 8; place = place })
-unfolding dueIn dueOf
+unfolding dueOf
 two-inverted-line-refused {w} {p} {read} good b m (in-eav {sav = sav} buffer written dam) =
     let low : 4 ≤ lineLength (systemOf (w .system)) = omega (arith, line-is-parts (systemOf (w .system))) in
     let fit-line = fit w good b m p buffer read 2 sav 4 written low dam in
@@ -125,7 +114,8 @@ two-inverted-line-refused {w} {p} {read} good b m (in-sav {eav = eav} buffer wri
     let struck = of-line w good b m p buffer read eav 2 end-at written low dam in
     let d = dueOf (systemOf (w .system)) (w .line) in
     refused-there w good b m p buffer read eav 2 end-at written low dam (savOffset (systemOf (w .system)) + 3)
-    (two-in-sav d (proper (w .system) (w .line)) p fit-line read eav 2 end-at low struck (omega arith) he refl)
+    (ap (λ (x : Due). wordRefusal x read) (due-at-walk w read)
+    ∙ two-in-sav d (proper (w .system) (w .line)) p fit-line read eav 2 end-at low struck (omega arith) he refl)
 
 -- buffers of the right lengths, whatever they hold
 pub blank : Samples
@@ -190,24 +180,28 @@ module _ (w : Walk) (read : List ℕ) (accepted : Accepted w read) where
   abbrev pub given : Samples
   given = samplesOf (dueOf (systemOf (w .system)) (w .line)) read
 
+  -- no word of it is refused by what was due where it was written
+  well : wordRefusal (dueOf (systemOf (w .system)) (w .line)) read .number ≡ 0
+  well = ap (λ (x : Due). wordRefusal x read .number) (sym (due-at-walk w read)) ∙ accepted .words-accepted
+
   pub writable : writeRefusal (w .system) (w .line) given (length read) .number ≡ 0
-  unfolding dueIn dueOf
+  unfolding dueOf
   writable =
       written-samples-fit (w .system) (w .line) given (length read) .1
       (record {
         a-system = accepted .good .system;
         a-line = accepted .good .line;
         words = accepted .size;
-        fit = accepted-fit (dueOf (systemOf (w .system)) (w .line)) read (accepted .size) (accepted .words-accepted);
+        fit = accepted-fit (dueOf (systemOf (w .system)) (w .line)) read (accepted .size) well;
       })
 
   pub image : Damaged (dueOf (systemOf (w .system)) (w .line)) (lineAfter (w .system) (w .line) given read) read
       (repairsAt read 3) (repairsAt read (savOffset (systemOf (w .system)) + 3))
-  unfolding dueIn dueOf
+  unfolding dueOf
   image =
       subst (λ (l : List ℕ). Damaged (dueOf (systemOf (w .system)) (w .line)) l read (repairsAt read 3) (repairsAt read (savOffset (systemOf (w .system)) + 3)))
       (sym (accepted-writes-the-line (w .system) (w .line) given read writable .0))
-      (accepted-image (dueOf (systemOf (w .system)) (w .line)) read (accepted .size) (accepted .words-accepted))
+      (accepted-image (dueOf (systemOf (w .system)) (w .line)) read (accepted .size) well)
 
 -- where reading a line and more ends well, the line was accepted
 goes-on : (w : Walk) (b : Samples) (read : List ℕ) (rest : List (List ℕ)) → play w b (read ∷ rest) .number ≡ 0 → readAnswer w b read .number ≡ 0
@@ -235,7 +229,7 @@ is-image w (read ∷ rest) b m few z =
     let p = given w read accepted in
     let e = repairsAt read 3 in
     let s = repairsAt read (savOffset (systemOf (w .system)) + 3) in
-    let v = vOf (systemOf (w .system)) (w .line) in
+    let v = dueOf (systemOf (w .system)) (w .line) .v in
     let he : e ≤ 1 = one-repair (codeReportOf (correctionOf (getD read 3 0))) in
     let hs : s ≤ 1 = one-repair (codeReportOf (correctionOf (getD read (savOffset (systemOf (w .system)) + 3) 0))) in
     let written = writable w read accepted in

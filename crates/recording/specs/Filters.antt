@@ -6,10 +6,10 @@ use mathlib.Core.List.{List, [], _∷_, _++_, map, flatten, List·Memᴰ}
 use lib.ListN.{length, getD}
 use Rattle.intake.specs.Arrival.{allPieces}
 use Rattle.system.specs.Walk.{mostLines, freshOf}
-use Rattle.line.specs.declared.Due.{Due}
+use Rattle.system.specs.declared.due.Due.{Due}
 use Rattle.line.specs.Fault.{leastSample, mostSample}
 use Rattle.line.specs.Samples.{Samples, activeLength}
-use Rattle.lent.specs.Bytes.{wordsOf, bytesOf}
+use Rattle.words.specs.Bytes.{wordsOf, bytesOf}
 use Rattle.writer.specs.Write.{sampleRefusal}
 use Rattle.v210.specs.Row.{rowLength, packedOf, spareRefusal}
 use Rattle.confirmation.specs.Run.{begunOf, confirmedOf}

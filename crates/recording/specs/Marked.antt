@@ -2,12 +2,13 @@
 use Prim.Native.Nat.{ℕ}
 use mathlib.Core.Path.{_≡_}
 use mathlib.Core.Bool.{true, false}
-use mathlib.Core.List.{List, [], _∷_, map}
+use mathlib.Core.List.{[], _∷_, map}
 use Rattle.timing.specs.Code.{fourthOf, correctionOf}
-use Rattle.timing.specs.Report.{Values, valuesOf}
+use Rattle.timing.specs.Report.{valuesOf}
 use Rattle.system.specs.declared.System.the-variants.{Lines525, Lines625}
 use Rattle.system.specs.Figures.{vOf, fOf}
-use Rattle.line.specs.Due.{dueOf, dueAt}
+use Rattle.system.specs.Due.{dueOf}
+use Rattle.line.specs.Offsets.{dueAt}
 use Rattle.line.specs.Fault.{faultWhere}
 use Rattle.serial.specs.Calls.{freshState, codeAnswer, codeOutput}
 

@@ -4,12 +4,13 @@ use mathlib.Core.List.{List, [], _∷_}
 use mathlib.Core.Bool.{Bool, cond}
 use lib.Dec.{eqb}
 use lib.ListN.{length}
-use Rattle.system.specs.declared.Walk.{Walk}
+use Rattle.system.specs.declared.walk.Walk.{Walk}
 use Rattle.system.specs.Figures.{activeOffset, systemOf}
 use Rattle.line.specs.Lengths.{bufferRefusal}
 use Rattle.line.specs.Samples.{Samples, ysFrom, cbsFrom, crsFrom}
-use Rattle.reader.specs.declared.Judgement.{Judgement}
-use Rattle.reader.specs.Judge.{dueIn, judgedOf, bufferAfter}
+use Rattle.system.specs.declared.walk.Judgement.{Judgement}
+use Rattle.system.specs.Walk.{dueIn}
+use Rattle.reader.specs.Judge.{judgedOf, bufferAfter}
 
 -- what the read call answers, with sample buffers that hold this
 abbrev pub readAnswer : Walk → Samples → List ℕ → Judgement

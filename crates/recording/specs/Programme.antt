@@ -5,15 +5,16 @@ use mathlib.Core.List.{List, [], _∷_, map, List·Memᴰ}
 use mathlib.Core.Bool.{Bool, cond}
 use lib.Dec.{eqb}
 use lib.ListN.{length, getD}
-use Rattle.system.specs.declared.Walk.{Walk}
+use Rattle.system.specs.declared.walk.Walk.{Walk}
 use Rattle.system.specs.Figures.{lineLength, systemOf}
 use Rattle.system.specs.Walk.{mostLines, freshOf}
-use Rattle.line.specs.Samples.{Samples, tab, activeLength, sampleAt}
-use Rattle.reader.specs.declared.Judgement.{Judgement}
-use Rattle.lent.specs.Bytes.{wordsOf}
+use Rattle.line.specs.Samples.{Samples, activeLength, sampleAt}
+use Rattle.words.specs.Words.{tab}
+use Rattle.system.specs.declared.walk.Judgement.{Judgement}
+use Rattle.words.specs.Bytes.{wordsOf}
 use Rattle.v210.specs.Row.{rowLength, packedOf}
 use Rattle.programme.specs.Record.{takesRow, rowSamples, recordedOf, lineBytesAfter}
-use Rattle.programme.specs.Extract.{extractedOf, rowOfLine}
+use Rattle.programme.specs.Extract.{extractedOf, givesRow, rowOfLine}
 use Rattle.recording.specs.Recording.{Recording, pictures}
 use Rattle.recording.specs.Promise.{walkAfter}
 
@@ -45,7 +46,7 @@ unfoldable pub extractAll : Walk → List (List ℕ) → Extracted
 extractAll w [] = record { rows = []; number = 0; place = 0; walk = w }
 extractAll w (bytes ∷ rest) =
     cond (eqb (extractedOf w bytes rowLength .number) 0)
-    (rowThen (takesRow w) (rowOfLine w bytes) (extractAll (extractedOf w bytes rowLength .walk) rest))
+    (rowThen (givesRow w bytes) (rowOfLine w bytes) (extractAll (extractedOf w bytes rowLength .walk) rest))
     (refusedBy (extractedOf w bytes rowLength))
 
 -- the row of a line's samples

@@ -4,13 +4,13 @@ use mathlib.Core.Path.{_≡_}
 use mathlib.Core.List.{List, [], _∷_, _++_, map}
 use lib.Count.{ones}
 use lib.ListN.{length}
-use Rattle.system.specs.declared.Walk.{Walk}
+use Rattle.system.specs.declared.walk.Walk.{Walk}
 use Rattle.system.specs.Figures.{lineLength, savOffset, activeOffset, systemOf, nextLine}
 use Rattle.system.specs.Walk.{mostLines, freshOf}
 use Rattle.line.specs.Samples.{Samples}
 use Rattle.line.specs.Fit.{Measured}
 use Rattle.writer.specs.Write.{writeRefusal, lineAfter}
-use Rattle.lent.specs.Bytes.{wordsOf}
+use Rattle.words.specs.Bytes.{wordsOf}
 use Rattle.confirmation.specs.declared.Run.{Run}
 use Rattle.confirmation.specs.Run.{headerSystem, headerStart, confirmedOf}
 use Rattle.recording.specs.Recording.{Recording, TwoInverted, AgreeUpTo, struckLine, pictures, lineAfterAll}

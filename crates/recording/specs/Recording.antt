@@ -6,8 +6,8 @@ use mathlib.Core.Bool.{cond}
 use lib.Dec.{eqb}
 use lib.ListN.{length, getD}
 use Rattle.timing.specs.Code.{legalOf, sevenOf, distanceOf, bitOf}
-use Rattle.system.specs.Figures.{savOffset, activeOffset, vOf, systemOf, nextLine}
-use Rattle.line.specs.Due.{dueOf}
+use Rattle.system.specs.Figures.{savOffset, activeOffset, systemOf, nextLine}
+use Rattle.system.specs.Due.{dueOf}
 use Rattle.line.specs.Samples.{Samples}
 use Rattle.line.specs.Damage.{Damaged, DamagedUpTo, struck}
 use Rattle.writer.specs.Write.{writeRefusal, lineAfter}
@@ -27,7 +27,7 @@ pub data Recording (system : ℕ) : ℕ → List Samples → List (List ℕ) →
 abbrev pub pictures : ℕ → ℕ → List Samples → List Samples
 pictures system line [] = []
 pictures system line (p ∷ ps) =
-    cond (vOf (systemOf system) line) (pictures system (nextLine (systemOf system) line) ps) (p ∷ pictures system (nextLine (systemOf system) line) ps)
+    cond (dueOf (systemOf system) line .v) (pictures system (nextLine (systemOf system) line) ps) (p ∷ pictures system (nextLine (systemOf system) line) ps)
 
 -- the line awaited after it
 abbrev pub lineAfterAll : ℕ → ℕ → List Samples → ℕ

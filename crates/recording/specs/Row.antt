@@ -6,7 +6,7 @@ use mathlib.Core.List.{List, [], _∷_, map, flatten}
 use lib.ListN.{length, drop}
 use Rattle.system.specs.Walk.{mostLines, freshOf}
 use Rattle.line.specs.Samples.{Samples}
-use Rattle.lent.specs.Bytes.{wordsOf}
+use Rattle.words.specs.Bytes.{wordsOf}
 use Rattle.confirmation.specs.declared.Run.{Run}
 use Rattle.confirmation.specs.Run.{headerLength, headerSystem, headerStart, begunOf, confirmedOf}
 use Rattle.confirmation.specs.Totals.{followsOn}

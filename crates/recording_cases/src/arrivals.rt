@@ -1,8 +1,6 @@
 // The crate intake: what a read tells, and how a buffer is filled.
+use cases::Numbers;
 use cases::number;
-use cases::put_number;
-use cases::put_truth;
-use cases::put_wide;
 use cases::wide;
 use intake::Filled;
 use intake::Told;
@@ -15,17 +13,16 @@ fn signed(bits: u64) -> isize {
     !((18446744073709551615 - bits) as isize)
 }
 
-fn put_tag(answer: &mut [u8], tag: u32, count: usize) -> usize {
-    let at_count = put_number(answer, 0, tag);
-    put_wide(answer, at_count, count as u64)
+fn tagged(tag: u32, count: usize) -> Numbers {
+    Numbers::one(tag).with_wide(count as u64)
 }
 
 // A tag, and the count that comes with it.
-fn put_told(answer: &mut [u8], told: Told) -> usize {
+fn of_told(told: Told) -> Numbers {
     match told {
-        Told::Failed => put_tag(answer, 0, 0),
-        Told::Ended => put_tag(answer, 1, 0),
-        Told::Bytes { count } => put_tag(answer, 2, count),
+        Told::Failed => tagged(0, 0),
+        Told::Ended => tagged(1, 0),
+        Told::Bytes { count } => tagged(2, count),
     }
 }
 
@@ -39,26 +36,26 @@ fn told(tag: u32, count: usize) -> Told {
 }
 
 // intake::tells, of a count and room for the bytes.
-pub(crate) fn tells(payload: &[u8], answer: &mut [u8]) -> usize {
+pub(crate) fn tells(payload: &[u8]) -> Numbers {
     if payload.len() < 12 {
-        return 0;
+        return Numbers::none();
     }
-    let got = signed(wide(payload, 0));
-    put_told(answer, intake::tells(got, &payload[12..]))
+    of_told(intake::tells(signed(wide(payload, 0)), &payload[12..]))
 }
 
-fn put_filled(answer: &mut [u8], filled: Filled) -> usize {
-    let at_done = put_wide(answer, 0, filled.have as u64);
-    let at_failed = put_truth(answer, at_done, filled.done);
-    put_truth(answer, at_failed, filled.failed)
+fn of_filled(filled: Filled) -> Numbers {
+    Numbers::none()
+        .with_wide(filled.have as u64)
+        .with_truth(filled.done)
+        .with_truth(filled.failed)
 }
 
 // Filled::so_far.
-pub(crate) fn so_far(payload: &[u8], answer: &mut [u8]) -> usize {
+pub(crate) fn so_far(payload: &[u8]) -> Numbers {
     if payload.len() != 8 {
-        return 0;
+        return Numbers::none();
     }
-    put_filled(answer, Filled::so_far(wide(payload, 0) as usize))
+    of_filled(Filled::so_far(wide(payload, 0) as usize))
 }
 
 // What was filled, as the first numbers tell it.
@@ -71,11 +68,11 @@ fn filled(payload: &[u8]) -> Filled {
 }
 
 // Filled::after.
-pub(crate) fn after(payload: &[u8], answer: &mut [u8]) -> usize {
-    let before: Filled = filled(payload);
+pub(crate) fn after(payload: &[u8]) -> Numbers {
     if payload.len() != 36 {
-        return 0;
+        return Numbers::none();
     }
+    let before: Filled = filled(payload);
     let read = told(number(payload, 16), wide(payload, 20) as usize);
-    put_filled(answer, before.after(read, wide(payload, 28) as usize))
+    of_filled(before.after(read, wide(payload, 28) as usize))
 }

@@ -1,10 +1,7 @@
 // The crate confirmation: runs.
+use cases::Numbers;
 use cases::count;
 use cases::number;
-use cases::put_number;
-use cases::put_place;
-use cases::put_truth;
-use cases::put_walk;
 use cases::walk;
 use confirmation::Followed;
 use confirmation::Outcome;
@@ -24,81 +21,66 @@ pub(crate) fn run(payload: &[u8]) -> Run {
     }
 }
 
-pub(crate) fn put_run(answer: &mut [u8], run: Run) -> usize {
-    let at_start = put_number(answer, 0, run.system);
-    let at_walk = put_number(answer, at_start, run.start);
-    let at_number = put_walk(answer, at_walk, run.walk);
-    let at_place = put_number(answer, at_number, run.number);
-    put_place(answer, at_place, run.place)
+pub(crate) fn of_run(run: Run) -> Numbers {
+    Numbers::one(run.system)
+        .with(run.start)
+        .with_walk(run.walk)
+        .with(run.number)
+        .with_place(run.place)
 }
 
 // Run::begin.
-pub(crate) fn begin(payload: &[u8], answer: &mut [u8]) -> usize {
+pub(crate) fn begin(payload: &[u8]) -> Numbers {
     if payload.len() < 4 {
-        return 0;
+        return Numbers::none();
     }
-    put_run(answer, Run::begin(&payload[4..]))
+    of_run(Run::begin(&payload[4..]))
 }
 
-fn put_followed(answer: &mut [u8], followed: Followed) -> usize {
-    let at_taken = put_run(answer, followed.run);
-    put_place(answer, at_taken, followed.taken)
+fn of_followed(followed: Followed) -> Numbers {
+    of_run(followed.run).with_place(followed.taken)
 }
 
-// Run::follow.
-pub(crate) fn follow(payload: &[u8], answer: &mut [u8]) -> usize {
-    let before: Run = run(payload);
+// Run::follow, Run::next or Run::close, with these bytes.
+fn with_bytes(kind: u32, before: Run, bytes: &[u8]) -> Numbers {
+    match kind {
+        92 => of_followed(before.follow(bytes)),
+        93 => of_run(before.close(bytes)),
+        _ => of_run(before.next(bytes)),
+    }
+}
+
+pub(crate) fn follow(kind: u32, payload: &[u8]) -> Numbers {
     if payload.len() < RUN + 4 {
-        return 0;
+        return Numbers::none();
     }
-    put_followed(answer, before.follow(&payload[RUN + 4..]))
+    with_bytes(kind, run(payload), &payload[RUN + 4..])
 }
 
-// Run::next.
-pub(crate) fn next(payload: &[u8], answer: &mut [u8]) -> usize {
-    let before: Run = run(payload);
-    if payload.len() < RUN + 4 {
-        return 0;
-    }
-    put_run(answer, before.next(&payload[RUN + 4..]))
-}
-
-// Run::close.
-pub(crate) fn close(payload: &[u8], answer: &mut [u8]) -> usize {
-    let before: Run = run(payload);
-    if payload.len() < RUN + 4 {
-        return 0;
-    }
-    put_run(answer, before.close(&payload[RUN + 4..]))
-}
-
-fn put_outcome(answer: &mut [u8], outcome: Outcome) -> usize {
-    let at_start = put_number(answer, 0, outcome.system);
-    let at_lines = put_number(answer, at_start, outcome.start);
-    let at_repairs = put_number(answer, at_lines, outcome.lines);
-    let at_number = put_number(answer, at_repairs, outcome.repairs);
-    let at_line = put_number(answer, at_number, outcome.number);
-    let at_place = put_number(answer, at_line, outcome.line);
-    put_place(answer, at_place, outcome.place)
+fn of_outcome(outcome: Outcome) -> Numbers {
+    Numbers::one(outcome.system)
+        .with(outcome.start)
+        .with(outcome.lines)
+        .with(outcome.repairs)
+        .with(outcome.number)
+        .with(outcome.line)
+        .with_place(outcome.place)
 }
 
 // Run::outcome.
-pub(crate) fn outcome(payload: &[u8], answer: &mut [u8]) -> usize {
-    let ended: Run = run(payload);
+pub(crate) fn outcome(payload: &[u8]) -> Numbers {
     if payload.len() != RUN {
-        return 0;
+        return Numbers::none();
     }
-    put_outcome(answer, ended.outcome())
+    let ended: Run = run(payload);
+    of_outcome(ended.outcome())
 }
 
 // confirmation::follows_on.
-pub(crate) fn follows_on(payload: &[u8], answer: &mut [u8]) -> usize {
+pub(crate) fn follows_on(payload: &[u8]) -> Numbers {
     if payload.len() != 2 * RUN {
-        return 0;
+        return Numbers::none();
     }
-    put_truth(
-        answer,
-        0,
-        confirmation::follows_on(run(payload), run(&payload[RUN..])),
-    )
+    let follows = confirmation::follows_on(run(payload), run(&payload[RUN..]));
+    Numbers::none().with_truth(follows)
 }

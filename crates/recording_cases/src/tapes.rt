@@ -1,10 +1,7 @@
 // The crate programme: tapes.
+use cases::Numbers;
 use cases::count;
 use cases::number;
-use cases::put_number;
-use cases::put_place;
-use cases::put_truth;
-use cases::put_walk;
 use cases::walk;
 use programme::Tape;
 
@@ -21,31 +18,35 @@ pub(crate) fn tape(payload: &[u8]) -> Tape {
     }
 }
 
-pub(crate) fn put_tape(answer: &mut [u8], tape: Tape) -> usize {
-    let at_most = put_walk(answer, 0, tape.walk);
-    let at_number = put_number(answer, at_most, tape.most);
-    let at_place = put_number(answer, at_number, tape.number);
-    put_place(answer, at_place, tape.place)
+pub(crate) fn of_tape(tape: Tape) -> Numbers {
+    Numbers::none()
+        .with_walk(tape.walk)
+        .with(tape.most)
+        .with(tape.number)
+        .with_place(tape.place)
 }
 
 // Tape::begin.
-pub(crate) fn begin(payload: &[u8], answer: &mut [u8]) -> usize {
+pub(crate) fn begin(payload: &[u8]) -> Numbers {
     if payload.len() != 12 {
-        return 0;
+        return Numbers::none();
     }
     let begun = Tape::begin(number(payload, 0), number(payload, 4), number(payload, 8));
-    put_tape(answer, begun)
+    of_tape(begun)
+}
+
+fn answered(kind: u32, at: Tape) -> Numbers {
+    match kind {
+        111 => Numbers::none().with_truth(at.turns()),
+        112 => of_tape(at.turned()),
+        _ => Numbers::none().with_truth(at.ends()),
+    }
 }
 
 // Tape::turns, Tape::turned, or Tape::ends.
-pub(crate) fn asked(kind: u32, payload: &[u8], answer: &mut [u8]) -> usize {
-    let at: Tape = tape(payload);
+pub(crate) fn asked(kind: u32, payload: &[u8]) -> Numbers {
     if payload.len() != TAPE {
-        return 0;
+        return Numbers::none();
     }
-    match kind {
-        111 => put_truth(answer, 0, at.turns()),
-        112 => put_tape(answer, at.turned()),
-        _ => put_truth(answer, 0, at.ends()),
-    }
+    answered(kind, tape(payload))
 }

@@ -1,7 +1,7 @@
 // The crate confirmation: sums over recordings.
+use cases::Numbers;
 use cases::count;
 use cases::number;
-use cases::put_wide;
 use cases::wide;
 use confirmation::Outcome;
 use confirmation::Totals;
@@ -31,13 +31,14 @@ fn outcome(payload: &[u8]) -> Outcome {
     }
 }
 
-fn put_totals(answer: &mut [u8], totals: Totals) -> usize {
-    let at_lines525 = put_wide(answer, 0, totals.files);
-    let at_lines625 = put_wide(answer, at_lines525, totals.lines525);
-    let at_repairs = put_wide(answer, at_lines625, totals.lines625);
-    let at_refused = put_wide(answer, at_repairs, totals.repairs);
-    let at_unread = put_wide(answer, at_refused, totals.refused);
-    put_wide(answer, at_unread, totals.unread)
+fn of_totals(totals: Totals) -> Numbers {
+    Numbers::none()
+        .with_wide(totals.files)
+        .with_wide(totals.lines525)
+        .with_wide(totals.lines625)
+        .with_wide(totals.repairs)
+        .with_wide(totals.refused)
+        .with_wide(totals.unread)
 }
 
 // The bytes of what each kind brings.
@@ -49,17 +50,20 @@ fn size_of(kind: u32) -> usize {
     }
 }
 
-pub(crate) fn answer_case(kind: u32, payload: &[u8], answer: &mut [u8]) -> usize {
-    let before: Totals = totals(payload);
-    if payload.len() != size_of(kind) {
-        return 0;
-    }
+fn answered(kind: u32, before: Totals, outcome: Outcome) -> Numbers {
     match kind {
-        100 => put_totals(answer, Totals::none()),
-        101 => put_totals(answer, before.with_read(outcome(payload))),
-        102 => put_totals(answer, before.with_unread()),
-        103 => put_wide(answer, 0, before.lines()),
-        104 => put_wide(answer, 0, before.hours()),
-        _ => 0,
+        100 => of_totals(Totals::none()),
+        101 => of_totals(before.with_read(outcome)),
+        102 => of_totals(before.with_unread()),
+        103 => Numbers::none().with_wide(before.lines()),
+        104 => Numbers::none().with_wide(before.hours()),
+        _ => Numbers::none(),
     }
+}
+
+pub(crate) fn answer_case(kind: u32, payload: &[u8]) -> Numbers {
+    if payload.len() != size_of(kind) {
+        return Numbers::none();
+    }
+    answered(kind, totals(payload), outcome(payload))
 }

@@ -1,9 +1,8 @@
-// The crates programme and confirmation: what is asked of a walk.
+// The crates programme and system: what is asked of a walk.
+use cases::Numbers;
 use cases::number;
-use cases::put_number;
-use cases::put_place;
-use cases::put_truth;
 use cases::walk;
+use system::Walk;
 
 // The bytes of what each kind brings.
 fn size_of(kind: u32) -> usize {
@@ -14,24 +13,22 @@ fn size_of(kind: u32) -> usize {
     }
 }
 
-pub(crate) fn answer_case(kind: u32, payload: &[u8], answer: &mut [u8]) -> usize {
-    if payload.len() != size_of(kind) {
-        return 0;
-    }
+fn answered(kind: u32, walk: Walk, most: u32) -> Numbers {
     match kind {
-        82 => put_truth(answer, 0, programme::takes_row(walk(payload, 0))),
-        83 => put_truth(answer, 0, programme::ends_frame(walk(payload, 0))),
-        84 => put_number(
-            answer,
-            0,
-            programme::piece_lines(number(payload, 0), number(payload, 4)),
-        ),
-        85 => put_truth(
-            answer,
-            0,
-            programme::ends_piece(walk(payload, 0), number(payload, 16)),
-        ),
-        90 => put_place(answer, 0, confirmation::line_bytes(walk(payload, 0))),
-        _ => 0,
+        82 => Numbers::none().with_truth(programme::takes_row(walk)),
+        83 => Numbers::none().with_truth(programme::ends_frame(walk)),
+        84 => Numbers::one(programme::piece_lines(walk.system, walk.line)),
+        85 => Numbers::none().with_truth(programme::ends_piece(walk, most)),
+        90 => Numbers::none()
+            .with_place(walk.line_words())
+            .with_place(walk.line_bytes()),
+        _ => Numbers::none(),
     }
+}
+
+pub(crate) fn answer_case(kind: u32, payload: &[u8]) -> Numbers {
+    if payload.len() != size_of(kind) {
+        return Numbers::none();
+    }
+    answered(kind, walk(payload, 0), number(payload, 16))
 }

@@ -30,6 +30,10 @@ pub or-either : (a b : Bool) → (a || b) ≡ true → (a ≡ true) ⊎ (b ≡ t
 or-either true b e = inl refl
 or-either false b e = inr e
 
+pub or-neither : (a b : Bool) → (a || b) ≡ false → (a ≡ false) × (b ≡ false)
+or-neither true b e = (e, cc)
+or-neither false b e = (refl, e)
+
 pub or-left : (a b : Bool) → a ≡ true → (a || b) ≡ true
 or-left a b e = ap (λ (t : Bool). t || b) e
 

@@ -2,13 +2,14 @@
 use mathlib.Core.Path.{_≡_, refl, sym, ap, _∙_}
 use Prim.Native.Nat.{ℕ, zero, suc, _+_, _<_}
 use native.Mathlib.Omega.{arith}
-use mathlib.Core.Bool.{Bool, true, false, cond}
-use mathlib.Core.Logic.{_⊎_, inl, inr, ⊎-elim}
+use mathlib.Core.Bool.{Bool, true, false, not}
+use mathlib.Core.List.{List}
 use lib.Dec.{eqb}
 use borrow.Author.Tests.{eq-eqb, ne-eqb, eqb-true, eqb-false}
 use Rattle.refusal.specs.declared.Refusal.{Refusal}
-use Rattle.refusal.specs.Answer.{none, orElse, firstFrom}
-use Rattle.refusal.proofs.Cases.{by-test}
+use Rattle.refusal.specs.Numbers.{wrongLength}
+use Rattle.refusal.specs.Answer.{none, refuse, writtenBy, orElse, firstFrom}
+use Rattle.refusal.proofs.Cases.{by-test, not-false}
 
 pub orElse-accepted : (a b : Refusal) → a .number ≡ 0 → orElse a b ≡ b
 unfolding orElse
@@ -18,6 +19,14 @@ pub orElse-refused : (a b : Refusal) → (a .number ≡ 0 → ⊥) → orElse a 
 unfolding orElse
 orElse-refused a b n = simp (ne-eqb _ _ n)
 
+-- the first of three is the same, however they are grouped
+pub orElse-grouped : (a b c : Refusal) → orElse a (orElse b c) ≡ orElse (orElse a b) c
+orElse-grouped a b c =
+    by-test (eqb (a .number) 0)
+    (λ t. let z = eqb-true _ _ t in orElse-accepted a (orElse b c) z ∙ ap (λ (r : Refusal). orElse r c) (sym (orElse-accepted a b z)))
+    (λ f. let n = eqb-false _ _ f in
+    orElse-refused a (orElse b c) n ∙ sym (ap (λ (r : Refusal). orElse r c) (orElse-refused a b n) ∙ orElse-refused a c n))
+
 -- where the first of two refusals is none, neither refuses
 pub orElse-none : (a b : Refusal) → orElse a b .number ≡ 0 → (a .number ≡ 0) × (b .number ≡ 0)
 orElse-none a b e =
@@ -25,6 +34,30 @@ orElse-none a b e =
     (λ t. (eqb-true _ _ t, sym (ap (λ (r : Refusal). r .number) (orElse-accepted a b (eqb-true _ _ t))) ∙ e))
     (λ f. absurd (eqb-false _ _ f (sym (ap (λ (r : Refusal). r .number) (orElse-refused a b (eqb-false _ _ f))) ∙ e)))
 
+-- equal answers have one number
+pub same-number : {a b : Refusal} → a ≡ b → a .number ≡ b .number
+same-number e = ap (λ (r : Refusal). r .number) e
+
+-- a refusal with the number 0 was not made
+pub not-made : (t : Bool) (n p : ℕ) → (n ≡ 0 → ⊥) → refuse t n p .number ≡ 0 → t ≡ false
+not-made true n p positive e = absurd (positive e)
+not-made false n p positive e = refl
+
+-- so a length that is not refused is the one that is due
+pub length-due : (m n p : ℕ) → refuse (not (eqb m n)) wrongLength p .number ≡ 0 → m ≡ n
+length-due m n p e = eqb-true m n (not-false _ (not-made (not (eqb m n)) wrongLength p (λ z. omega arith) e))
+
+-- ---- a buffer after its call
+module _ (r : Refusal) (after before : List ℕ) where
+  pub written-accepted : r .number ≡ 0 → writtenBy r after before ≡ after
+  unfolding writtenBy
+  written-accepted e = simp (eq-eqb _ _ e)
+
+  pub written-refused : (r .number ≡ 0 → ⊥) → writtenBy r after before ≡ before
+  unfolding writtenBy
+  written-refused n = simp (ne-eqb _ _ n)
+
+-- ---- the lowest place with a fault
 module _ (f : ℕ → ℕ) where
   none-from : (k i : ℕ) → ((j : ℕ) → j < i + k → f j ≡ 0) → firstFrom f i k ≡ none
   unfolding firstFrom

@@ -3,8 +3,9 @@ use mathlib.Core.Path.{_≡_, refl, sym, ap, subst, _∙_}
 use Prim.Native.Nat.{ℕ, _<_, _≤_}
 use native.Mathlib.Omega.{arith}
 use mathlib.Core.Bool.{Bool, true, false, cond, not, true≢false}
-use mathlib.Core.Logic.{_⊎_, inl, inr, ⊎-elim}
+use mathlib.Core.Logic.{inl, inr, ⊎-elim}
 use Rattle.refusal.specs.declared.Refusal.{Refusal}
+use Rattle.refusal.specs.Numbers.{wrongLength}
 use Rattle.refusal.specs.Answer.{none, refuse, orElse, firstFrom}
 use Rattle.refusal.specs.Table.{Row, when, Silent, _before_, Lowest, Decides, Keeps}
 use lib.Dec.{eqb, ltb}
@@ -17,10 +18,10 @@ pub keeps-when : (t : Bool) (C : Type 0) (n p : ℕ) → (t ≡ true → C) → 
 keeps-when true C n p forth back positive = inl ((forth refl, refl), positive)
 keeps-when false C n p forth back positive = inr (λ r q. true≢false (sym (back (q .0))), refl)
 
--- a length that is not the one that is due: 3 at its place
-pub keeps-unequal : (m n p : ℕ) → Keeps (when (m ≡ n → ⊥) 3 p) (refuse (not (eqb m n)) 3 p)
+-- a length that is not the one that is due
+pub keeps-unequal : (m n p : ℕ) → Keeps (when (m ≡ n → ⊥) wrongLength p) (refuse (not (eqb m n)) wrongLength p)
 keeps-unequal m n p =
-    keeps-when (not (eqb m n)) (m ≡ n → ⊥) 3 p (λ t. eqb-false m n (not-true _ t)) (λ ne. ap not (ne-eqb m n ne)) (λ z. omega arith)
+    keeps-when (not (eqb m n)) (m ≡ n → ⊥) wrongLength p (λ t. eqb-false m n (not-true _ t)) (λ ne. ap not (ne-eqb m n ne)) (λ z. omega arith)
 
 -- one table before another
 pub keeps-before : (a b : Row) (x y : Refusal) → Keeps a x → Keeps b y → Keeps (a before b) (orElse x y)
@@ -35,6 +36,16 @@ pub keeps-last : (a : Row) (x : Refusal) → Keeps a x → Keeps a (orElse x non
 keeps-last a x (inl (asked, refuses)) = subst (Keeps a) (sym (orElse-refused x none refuses)) (inl (asked, refuses))
 keeps-last a x (inr (silent, e)) =
     subst (Keeps a) (sym (orElse-accepted x none (ap (λ (r : Refusal). r .number) e))) (inr (silent, refl))
+
+-- an answer that keeps to a table, with none after it
+pub alone : (table : Row) (r : Refusal) → Keeps table r → orElse r none ≡ r
+alone table r (inl (asked, refuses)) = orElse-refused r none refuses
+alone table r (inr (silent, e)) = orElse-accepted r none (ap (λ (q : Refusal). q .number) e) ∙ sym e
+
+-- an answer of the number 0 that keeps to a table is that of acceptance
+pub keeps-none : (table : Row) (r : Refusal) → Keeps table r → r .number ≡ 0 → r ≡ none
+keeps-none table r (inl (asked, refuses)) z = absurd (refuses z)
+keeps-none table r (inr (silent, e)) z = e
 
 -- what the number of a fault at a place says of the place's own table
 pub record Numbers (row : Row) (n place : ℕ) : Type 0 where

@@ -13,6 +13,10 @@ none = record { number = 0; place = 0 }
 abbrev pub refuse : Bool → ℕ → ℕ → Refusal
 refuse test number place = cond test (record { number = number; place = place }) none
 
+-- a buffer after its call: "No refusal writes a buffer."
+unfoldable pub writtenBy : Refusal → List ℕ → List ℕ → List ℕ
+writtenBy r after before = cond (eqb (r .number) 0) after before
+
 -- the first of two answers that refuses
 unfoldable pub orElse : Refusal → Refusal → Refusal
 orElse a b = cond (eqb (a .number) 0) b a

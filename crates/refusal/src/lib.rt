@@ -3,3 +3,55 @@ pub struct Refusal {
     pub number: u32,
     pub place: usize,
 }
+
+impl Refusal {
+    // Accepted.
+    pub const NONE: Refusal = Refusal {
+        number: 0,
+        place: 0,
+    };
+}
+
+// Document 01's numbers of refusals, in the words of its table.
+pub struct Number;
+
+impl Number {
+    // The system is neither 525 nor 625.
+    pub const NO_SYSTEM: u32 = 1;
+
+    // The line number is outside 1 to 525, or 1 to 625.
+    pub const NO_LINE: u32 = 2;
+
+    // A slice has the wrong length.
+    pub const WRONG_LENGTH: u32 = 3;
+
+    // Lines read is 10,000,000 or more, or repairs exceed twice lines read.
+    pub const BAD_COUNTS: u32 = 4;
+
+    // A word is over 1023.
+    pub const OVER: u32 = 5;
+
+    // One of the first three words of a timing code is wrong.
+    pub const NO_CODE: u32 = 6;
+
+    // Bit 9 of a fourth word is 0.
+    pub const BIT_NINE: u32 = 7;
+
+    // Seven bits have no legal pattern within one bit.
+    pub const BEYOND_CORRECTION: u32 = 8;
+
+    // The corrected F, V, H are not those due here.
+    pub const NOT_DUE: u32 = 9;
+
+    // Fill is due and is not there.
+    pub const NO_FILL: u32 = 10;
+
+    // A reserved word stands where a sample is due.
+    pub const RESERVED: u32 = 11;
+
+    // A sample to be written is outside 4 to 1019.
+    pub const OUTSIDE: u32 = 12;
+
+    // Serial state: scrambled bits over 511 or last bit over 1.
+    pub const BAD_STATE: u32 = 13;
+}

@@ -10,7 +10,9 @@ use Rattle.serial.specs.declared.State.{State}
 use Rattle.serial.specs.declared.Answer.{Answer}
 use Rattle.serial.specs.declared.held.Held.{Held}
 use Rattle.serial.specs.Serial.{Past, outs, ends}
-use Rattle.serial.specs.Calls.{pastOf, stateOf, serialRefusal, answered, written}
+use Rattle.serial.specs.Calls.{pastOf, stateOf, serialRefusal, answerOf}
+use Rattle.refusal.specs.Answer.{writtenBy}
+use Rattle.refusal.proofs.Firsts.{same-number, written-accepted, written-refused}
 use Rattle.serial.specs.Held.{pastHeld}
 
 module _ (f : Past → ℕ → ℕ) (g : Past → ℕ → Past) (s : State) (words out : List ℕ) where
@@ -18,24 +20,24 @@ module _ (f : Past → ℕ → ℕ) (g : Past → ℕ → Past) (s : State) (wor
   refusal = serialRefusal s words (length out)
 
   abbrev answer : Answer
-  answer = answered refusal s (stateOf (ends f g (pastOf s) words))
+  answer = answerOf refusal s (stateOf (ends f g (pastOf s) words))
 
   abbrev output : List ℕ
-  output = written refusal out (outs f g (pastOf s) words)
+  output = writtenBy refusal (outs f g (pastOf s) words) out
 
   pub refused-call : (refusal .number ≡ 0 → ⊥)
       → (answer ≡ record { number = refusal .number; place = refusal .place; state = s }) × (output ≡ out)
-  refused-call n = (simp (ne-eqb _ _ n), simp (ne-eqb _ _ n))
+  refused-call n = (simp (ne-eqb _ _ n), written-refused refusal _ out n)
 
   pub accepted-call : refusal .number ≡ 0
       → (answer ≡ record { number = 0; place = 0; state = stateOf (ends f g (pastOf s) words) }) × (output ≡ outs f g (pastOf s) words)
-  accepted-call e = (simp (eq-eqb _ _ e), simp (eq-eqb _ _ e))
+  accepted-call e = (simp (eq-eqb _ _ e), written-accepted refusal _ out e)
 
   -- the code that answers by the refusal q
   pub refuses : {q : Refusal} {r : Answer} → q ≡ refusal → (q .number ≡ 0 → ⊥)
       → r ≡ record { number = q .number; place = q .place; state = s } → (r ≡ answer) × (out ≡ output)
   refuses e n a =
-      let no = refused-call (λ z. n (ap (λ (q : Refusal). q .number) e ∙ z)) in
+      let no = refused-call (λ z. n (same-number e ∙ z)) in
       (a ∙ ap (λ (q : Refusal). record { number = q .number; place = q .place; state = s }) e ∙ sym (no .0), sym (no .1))
 
   -- the code that runs from what is held, h, to what is held after, k

@@ -4,7 +4,6 @@ pub mod Steps
 pub mod RoundTrip
 pub mod Run
 pub mod Coding
-pub mod Small
 pub mod Refusals
 pub mod Answers
 pub mod Pieces

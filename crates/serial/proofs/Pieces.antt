@@ -11,7 +11,8 @@ use Rattle.serial.specs.declared.State.{State}
 use Rattle.serial.specs.declared.Answer.{Answer}
 use Rattle.serial.specs.Bits.{bits, num, digit, one?}
 use Rattle.serial.specs.Serial.{Past, push, coderStep, decoderStep, afterCoding, afterDecoding, pastCoding, pastDecoding, outs, ends, codeWords, endCoding, decodeWords, endDecoding}
-use Rattle.serial.specs.Calls.{shortDelay, longDelay, pastOf, stateOf, serialRefusal, answered, written, codeAnswer, codeOutput, decodeAnswer, decodeOutput}
+use Rattle.refusal.specs.Answer.{writtenBy}
+use Rattle.serial.specs.Calls.{shortDelay, longDelay, pastOf, stateOf, serialRefusal, answerOf, codeAnswer, codeOutput, decodeAnswer, decodeOutput}
 use Rattle.serial.proofs.Bits.{bits-num}
 use Rattle.serial.proofs.Steps.{code, afterCode, decode, afterDecode}
 use Rattle.serial.proofs.Answers.{accepted-call}
@@ -65,10 +66,10 @@ module _ (f : Past → ℕ → ℕ) (g : Past → ℕ → Past) (keeps : (p : Pa
 
   -- what a call answers and leaves
   abbrev answer : State → List ℕ → List ℕ → Answer
-  answer s words out = answered (serialRefusal s words (length out)) s (stateOf (ends f g (pastOf s) words))
+  answer s words out = answerOf (serialRefusal s words (length out)) s (stateOf (ends f g (pastOf s) words))
 
   abbrev output : State → List ℕ → List ℕ → List ℕ
-  output s words out = written (serialRefusal s words (length out)) out (outs f g (pastOf s) words)
+  output s words out = writtenBy (serialRefusal s words (length out)) (outs f g (pastOf s) words) out
 
   in-pieces : (s : State) (a b first second : List ℕ) → serialRefusal s a (length first) .number ≡ 0
       → serialRefusal (answer s a first .state) b (length second) .number ≡ 0

@@ -5,17 +5,16 @@ use Prim.Native.Nat.{ℕ, _≤_}
 use native.Mathlib.Omega.{arith}
 use lib.ListN.{length}
 use Rattle.refusal.specs.declared.Refusal.{Refusal}
-use Rattle.refusal.specs.Answer.{orElse, firstFrom}
+use Rattle.refusal.specs.Answer.{writtenBy, orElse, firstFrom}
 use Rattle.serial.specs.declared.State.{State}
 use Rattle.serial.specs.declared.Answer.{Answer}
 use Rattle.serial.specs.Serial.{Past, outs, ends, codeWord, pastCoding}
-use Rattle.serial.specs.Calls.{shortDelay, longDelay, freshState, pastOf, stateOf, serialRefusal, answered, codeAnswer, codeOutput, decodeAnswer, decodeOutput}
+use Rattle.serial.specs.Calls.{shortDelay, longDelay, freshState, pastOf, stateOf, serialRefusal, answerOf, codeAnswer, codeOutput, decodeAnswer, decodeOutput}
 use Rattle.serial.proofs.Bits.{num-bits, digit-held}
 use Rattle.serial.proofs.Steps.{code, afterCode, decode, afterDecode}
 use Rattle.serial.proofs.Run.{outs-length}
-use Rattle.serial.proofs.Small.{ten-bits}
+use Rattle.serial.proofs.Refusals.{ten-bits, Accepted, accepted, accepts}
 use Rattle.serial.proofs.RoundTrip.{codes-small}
-use Rattle.serial.proofs.Refusals.{Accepted, accepted, accepts}
 use Rattle.serial.proofs.Answers.{refused-call, accepted-call}
 -- For any delays, decoding what was coded from the same past gives the words, and ends in the past in which coding ended.
 pub use Rattle.serial.proofs.RoundTrip.{words-back, state-back}
@@ -73,7 +72,7 @@ state-of-past s nine one =
 
 -- for any step of a word
 no-words-run : (f : Past → ℕ → ℕ) (g : Past → ℕ → Past) (s : State) → s .scrambled ≤ 511 → s .last ≤ 1
-    → answered (serialRefusal s [] 0) s (stateOf (ends f g (pastOf s) [])) ≡ record { number = 0; place = 0; state = s }
+    → answerOf (serialRefusal s [] 0) s (stateOf (ends f g (pastOf s) [])) ≡ record { number = 0; place = 0; state = s }
 no-words-run f g s nine one =
     let empty = accepts s [] 0 (record { nine = nine; one = one; short = omega arith; same = refl; small = λ i h. absurd (omega arith) }) in
     accepted-call f g s [] [] (ap (λ (r : Refusal). r .number) empty) .0
@@ -97,7 +96,7 @@ refused-keeps s words out n =
 
 -- M10: the words 1, 0 coded from fresh.
 pub m10 : (a b : ℕ) → codeOutput freshState (1 ∷ 0 ∷ []) (a ∷ b ∷ []) ≡ 543 ∷ 736 ∷ []
-unfolding codeOutput serialRefusal orElse firstFrom codeWord pastCoding
+unfolding writtenBy codeOutput serialRefusal orElse firstFrom codeWord pastCoding
 m10 a b = refl
 
 -- M11: the serial state after the word 1 alone.

@@ -3,6 +3,7 @@
 use mathlib.Core.Path.{_≡_}
 use mathlib.Core.List.{List, reverse}
 use Prim.Native.Nat.{ℕ, _<_, _≤_, _%_}
+use Rattle.words.specs.Words.{mostWord}
 use lib.ListN.{length, getD}
 use Rattle.serial.specs.declared.held.Held.{Held}
 use Rattle.serial.specs.Bits.{bits, one?}
@@ -19,5 +20,5 @@ pub record Bounded (h : Held) : Type 0 where
 
 -- words of ten bits, and an output of equal length
 pub record Ready (words out : List ℕ) : Type 0 where
-  pub small : (i : ℕ) → i < length words → getD words i 0 ≤ 1023
+  pub small : (i : ℕ) → i < length words → getD words i 0 ≤ mostWord
   pub room : length out ≡ length words

@@ -8,7 +8,11 @@ ghost use mathlib.Core.Path.{_≡_};
 ghost use Rattle.serial.specs.Calls.{freshState, stateOf, serialRefusal, codeAnswer, codeOutput, decodeAnswer, decodeOutput};
 ghost use Rattle.serial.specs.Held.{pastHeld, Bounded};
 use crate::held::Held;
+use refusal::Number;
 use refusal::Refusal;
+
+// The most words of one call.
+const MOST_WORDS: usize = 65536;
 
 // The last nine scrambled bits, the newest lowest, and the last channel bit.
 pub struct State {
@@ -65,23 +69,23 @@ fn refusal_of(state: State, words: &[u16], room: usize) -> Refusal
 {
     if state.scrambled > 511 || state.last > 1 {
         return Refusal {
-            number: 13,
+            number: Number::BAD_STATE,
             place: 0,
         };
     }
-    if words.len() > 65536 {
+    if words.len() > MOST_WORDS {
         return Refusal {
-            number: 3,
+            number: Number::WRONG_LENGTH,
             place: 0,
         };
     }
     if room != words.len() {
         return Refusal {
-            number: 3,
+            number: Number::WRONG_LENGTH,
             place: 1,
         };
     }
-    word::first_over(words)
+    words::first_over(words)
 }
 
 // A refused call hands the state back.

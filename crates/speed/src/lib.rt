@@ -3,10 +3,10 @@ ghost use mathlib.Core.Path.{_≡_};
 ghost use lib.ListN.{length};
 ghost use Rattle.refusal.specs.Answer.{none};
 ghost use Rattle.system.specs.Figures.{systemOf, activeOffset};
-ghost use Rattle.system.specs.Walk.{freshWalk};
+ghost use Rattle.system.specs.Walk.{freshWalk, dueIn};
 ghost use Rattle.line.specs.Lengths.{bufferRefusal};
 ghost use Rattle.line.specs.Samples.{ysFrom, cbsFrom, crsFrom};
-ghost use Rattle.reader.specs.Judge.{dueIn, judgedOf, bufferAfter};
+ghost use Rattle.reader.specs.Judge.{judgedOf, bufferAfter};
 ghost use Rattle.writer.specs.Write.{writeRefusal, lineAfter};
 ghost use Rattle.serial.specs.Calls.{codeAnswer, codeOutput, decodeAnswer, decodeOutput};
 use serial::State;
@@ -16,12 +16,7 @@ use system::Walk;
 pub extern "C" fn speed_judge(system: u32, line: u32, words: &[u16]) -> u32
     ensures { λ r. ⌜ r ≡ judgedOf none (freshWalk system line) (now (words .entry)) .number ⌝ }
 {
-    let walk = Walk {
-        system,
-        line,
-        lines: 0,
-        repairs: 0,
-    };
+    let walk = Walk::of(system, line, 0, 0);
     reader::judge(walk, words).number
 }
 
@@ -39,12 +34,7 @@ pub extern "C" fn speed_read(
     ensures cbs { λ r. ⌜ now (cb .exit) ≡ bufferAfter (judgedOf (bufferRefusal (length (now (y .entry))) (length (now (cb .entry))) (length (now (cr .entry)))) (freshWalk system line) (now (words .entry))) (dueIn (freshWalk system line) (now (words .entry))) (cbsFrom (activeOffset (systemOf system)) (now (words .entry))) (now (cb .entry)) ⌝ }
     ensures crs { λ r. ⌜ now (cr .exit) ≡ bufferAfter (judgedOf (bufferRefusal (length (now (y .entry))) (length (now (cb .entry))) (length (now (cr .entry)))) (freshWalk system line) (now (words .entry))) (dueIn (freshWalk system line) (now (words .entry))) (crsFrom (activeOffset (systemOf system)) (now (words .entry))) (now (cr .entry)) ⌝ }
 {
-    let walk = Walk {
-        system,
-        line,
-        lines: 0,
-        repairs: 0,
-    };
+    let walk = Walk::of(system, line, 0, 0);
     reader::read(walk, words, y, cb, cr).number
 }
 

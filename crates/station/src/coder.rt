@@ -1,7 +1,7 @@
 // `scramble` and `descramble`: words in, coded or decoded words out.
 ghost use mathlib.Core.Path.{_≡_};
 ghost use mathlib.Core.Bool.{true};
-ghost use Prim.Native.Nat.{_/_, _≤_};
+ghost use Prim.Native.Nat.{_*_, _/_, _≤_};
 ghost use lib.ListN.{length};
 ghost use Rattle.console.specs.declared.Status.the-variants.{Unread};
 use console::Status;
@@ -60,15 +60,18 @@ fn refused(state: State, words: u64, number: u64) -> Stream {
     }
 }
 
+fn say_words(number: u64) -> bool {
+    if number == 3 {
+        return io::write_all(STDERR_FILENO, b": half a word is left\n");
+    }
+    io::write_all(STDERR_FILENO, b": it is over 1023\n")
+}
+
 fn say_refused(verb: &[u8], number: u64, word: u64) {
     console::say_of(verb, b"");
     console::say(STDERR_FILENO, b"refused ", number);
     console::say(STDERR_FILENO, b", word ", word);
-    if number == 3 {
-        io::write_all(STDERR_FILENO, b": half a word is left\n");
-        return;
-    }
-    io::write_all(STDERR_FILENO, b": it is over 1023\n");
+    say_words(number);
 }
 
 fn least(a: usize, b: usize) -> usize
@@ -124,14 +127,37 @@ fn turn_bytes(
     requires { ⌜ length (now out) ≡ length (now words) ⌝ }
     ensures { λ r. ⌜ r .good ≤ length (now (words .entry)) ⌝ }
 {
-    lent::to_words(bytes, words);
+    words::to_words(bytes, words);
     turn_good(is_coding, state, words, out)
 }
 
 // Writes words, by way of room for their bytes. True where all of them were written.
 fn write_words(words: &[u16], bytes: &mut [u8]) -> bool {
-    lent::to_bytes(words, bytes);
+    words::to_bytes(words, bytes);
     io::write_all(STDOUT_FILENO, bytes)
+}
+
+// How a stream goes on whose good words were written: refused where a word was not good, or half a word is left.
+fn gone_on(state: State, words: u64, is_good: bool, is_odd: bool) -> Stream {
+    if !is_good {
+        return refused(state, words, 5);
+    }
+    if is_odd {
+        return refused(state, words, 3);
+    }
+    open(state, words)
+}
+
+// What a stream comes to where its words were coded or decoded: the good ones are written.
+fn put_good(turned: Turned, words: u64, is_odd: bool, bytes: &mut [u8], out: &[u16]) -> Stream
+    requires { ⌜ (2 * length (now out) ≤ length (now bytes)) × (turned .good ≤ length (now out)) ⌝ }
+{
+    let good = turned.good;
+    let done = wrapping_add_u64(words, good as u64);
+    if write_words(&out[0..good], &mut bytes[0..2 * good]) {
+        return gone_on(turned.state, done, good == out.len(), is_odd);
+    }
+    ended(turned.state, done, Status::Unwritten)
 }
 
 // What a stream comes to where these bytes of it are read: its words are coded or decoded, and written.
@@ -144,22 +170,10 @@ fn put_words(
 ) -> Stream
     requires { ⌜ (length (now words) ≡ length (now bytes) / 2) × (length (now out) ≡ length (now words)) ⌝ }
 {
-    let count = words.len();
+    let whole = 2 * words.len();
     let is_odd = bytes.len() % 2 == 1;
-    let turned = turn_bytes(is_coding, stream.state, &bytes[0..2 * count], words, out);
-    let good = turned.good;
-    let state = turned.state;
-    let done = wrapping_add_u64(stream.words, good as u64);
-    if !write_words(&out[0..good], &mut bytes[0..2 * good]) {
-        return ended(state, done, Status::Unwritten);
-    }
-    if good < count {
-        return refused(state, done, 5);
-    }
-    if is_odd {
-        return refused(state, done, 3);
-    }
-    open(state, done)
+    let turned = turn_bytes(is_coding, stream.state, &bytes[0..whole], words, out);
+    put_good(turned, stream.words, is_odd, bytes, out)
 }
 
 // What a turn makes of what was filled of a piece. A failed read is not the end of the input.
@@ -205,27 +219,26 @@ fn take_piece(
     take_filled(is_coding, stream, filled, bytes, words, out)
 }
 
-fn show(words: u64) {
-    console::say(STDERR_FILENO, b"\rwords ", words);
+// Shows how far a stream is, at some turns and where progress is shown.
+fn show_turn(is_shown: bool, turns: u64, words: u64) {
+    if is_shown && turns % PIECES_A_REPORT == 0 {
+        console::say(STDERR_FILENO, b"\rwords ", words);
+    }
 }
 
-// Takes pieces to the end of the input or the first refusal. The turns count down from a number that no input uses up.
+// Takes pieces to the end of the input or the first refusal.
 fn take_pieces(is_coding: bool, bytes: &mut [u8], words: &mut [u16], out: &mut [u16]) -> Stream
     requires { ⌜ (length (now words) ≡ length (now bytes) / 2) × (length (now out) ≡ length (now words)) ⌝ }
 {
     let is_shown = console::is_shown();
     let mut stream = open(State::fresh(), 0);
     let mut turns = u64::MAX;
-    while turns > 0 && !stream.done {
+    while turns > 0 {
         stream = take_piece(is_coding, stream, bytes, words, out);
-        turns -= 1;
-        if is_shown && turns % PIECES_A_REPORT == 0 {
-            show(stream.words);
-        }
+        turns = console::turns_left(turns, stream.done);
+        show_turn(is_shown, turns, stream.words);
     }
-    if is_shown {
-        console::end_show();
-    }
+    console::end_turns(is_shown);
     stream
 }
 

@@ -13,9 +13,6 @@ use intake::Filled;
 use libc::STDOUT_FILENO;
 use system::System625;
 
-// How many lines pass between two reports of progress.
-const LINES_A_REPORT: u64 = 4096;
-
 // The confirming program's run over the lines, and whether it is done, and how it ended.
 struct Extracting {
     run: Run,
@@ -82,23 +79,18 @@ fn take_line(input: i32, run: Run, line: &mut [u8], row: &mut [u8]) -> Extractin
     turned(run, filled, line, row)
 }
 
-// Takes lines to the end of the input or the first refusal. The turns count down from a number that no input uses up; one that did would
-// be unread.
+// Takes lines to the end of the input or the first refusal. An input that used the turns up would be unread.
 fn take_lines(input: i32, run: Run, line: &mut [u8], row: &mut [u8]) -> Extracting {
     let is_shown = console::is_shown();
     let mut at = open(run);
     let mut turns = u64::MAX;
-    while turns > 0 && !at.done {
+    while turns > 0 {
         at = take_line(input, at.run, line, row);
-        turns -= 1;
-        if is_shown && turns % LINES_A_REPORT == 0 {
-            let now = at.run;
-            console::show(now.walk);
-        }
+        turns = console::turns_left(turns, at.done);
+        let now = at.run;
+        console::show_turn(is_shown, turns, now.walk);
     }
-    if is_shown {
-        console::end_show();
-    }
+    console::end_turns(is_shown);
     at
 }
 
@@ -119,7 +111,8 @@ pub fn extract(input: i32, run: Run) -> Read {
     if run.number != 0 {
         return Read::ended(run);
     }
-    let size = confirmation::line_bytes(run.walk);
+    let walk = run.walk;
+    let size = walk.line_bytes();
     let mut line = [0u8; 2 * System625::LINE_LENGTH];
     let mut row = [0u8; v210::ROW_LENGTH];
     come_to(take_lines(input, run, &mut line[0..size], &mut row))

@@ -4,10 +4,10 @@ ghost use mathlib.Core.Bool.{Bool, true, false};
 ghost use mathlib.Core.List.{[], _∷_};
 ghost use Prim.Native.Nat.{_%_, _≤_};
 ghost use lib.ListN.{length, take};
-ghost use Rattle.lent.specs.Bytes.{bytesOf};
+ghost use Rattle.words.specs.Bytes.{bytesOf};
 ghost use Rattle.confirmation.specs.Run.{headerLength};
 ghost use Rattle.programme.specs.Tape.{turnedOf, tapedOf, atLine, nothingMore, onto, endOf, mostTurns};
-ghost use Rattle.console.specs.declared.Status.the-variants.{Done, Unread};
+ghost use Rattle.console.specs.declared.Status.the-variants.{Done, Unread, Failed};
 ghost use Rattle.station.specs.Turns.{tapedTurn};
 use console::Status;
 use intake::Filled;
@@ -17,9 +17,6 @@ use libc::STDOUT_FILENO;
 use programme::Tape;
 use system::System625;
 use system::Walk;
-
-// How many rows pass between two reports of progress.
-const ROWS_A_REPORT: u64 = 4096;
 
 // Where lines are written: a descriptor, and the number of its recording in the folder, or 0 for standard output.
 struct Output {
@@ -78,9 +75,7 @@ fn say_words(number: u32) -> bool {
 
 fn say_refused(number: u32, line: u32, place: usize) {
     console::say(STDERR_FILENO, b"record: refused ", number as u64);
-    console::say(STDERR_FILENO, b", line ", line as u64);
-    console::say(STDERR_FILENO, b", place ", place as u64);
-    io::write_all(STDERR_FILENO, b": ");
+    console::say_place(line, place);
     say_words(number);
 }
 
@@ -103,7 +98,7 @@ fn fill_header(walk: Walk, header: &mut [u8])
     requires { ⌜ length (now header) ≡ headerLength ⌝ }
     ensures { λ _. ⌜ now (header .exit) ≡ bytesOf (walk .system % 65536 ∷ walk .line % 65536 ∷ []) ⌝ }
 {
-    lent::to_bytes(
+    words::to_bytes(
         &[(walk.system % 65536) as u16, (walk.line % 65536) as u16],
         header,
     );
@@ -126,6 +121,24 @@ fn begun(tape: Tape, output: Output) -> Taping
     ended(tape, output, Status::Unwritten)
 }
 
+// A tape that ends because a folder or a recording could not be made, which is said with the system's reason.
+fn unmade(name: &[u8], tape: Tape, output: Output) -> Taping
+    ensures { λ r. ⌜ r ≡ record { tape = tape; output = output; done = true; status = Failed } ⌝ }
+{
+    console::say_of(b"record", name);
+    os::fail(b" could not be made");
+    ended(tape, output, Status::Failed)
+}
+
+// One that ends because of what a folder holds, which is said.
+fn unfit(folder: &[u8], text: &[u8], tape: Tape, output: Output) -> Taping
+    ensures { λ r. ⌜ r ≡ record { tape = tape; output = output; done = true; status = Failed } ⌝ }
+{
+    console::say_of(b"record", folder);
+    io::write_all(STDERR_FILENO, text);
+    ended(tape, output, Status::Failed)
+}
+
 // Makes the recording of this number in the folder, for this tape, by way of room for its path.
 fn make_by(folder: &[u8], piece: u32, tape: Tape, path: &mut [u8]) -> Taping
     ensures { λ r. ⌜ r .tape ≡ tape ⌝ }
@@ -137,9 +150,7 @@ fn make_by(folder: &[u8], piece: u32, tape: Tape, path: &mut [u8]) -> Taping
         piece,
     };
     if made.file < 0 {
-        console::say_of(b"record", &path[0..length]);
-        os::fail(b" could not be made");
-        return ended(tape, output, Status::Failed);
+        return unmade(&path[0..length], tape, output);
     }
     begun(tape, output)
 }
@@ -159,12 +170,12 @@ fn make_next(folder: &[u8], tape: Tape, output: Output) -> Taping
         return ended(tape, output, Status::Unwritten);
     }
     if folder::MOST <= output.piece {
-        console::say_of(b"record", folder);
-        io::write_all(
-            STDERR_FILENO,
+        return unfit(
+            folder,
             b" holds 9999 recordings, and no more can be numbered\n",
+            tape,
+            output,
         );
-        return ended(tape, output, Status::Failed);
     }
     make(folder, output.piece + 1, tape.turned())
 }
@@ -172,17 +183,15 @@ fn make_next(folder: &[u8], tape: Tape, output: Output) -> Taping
 // The first recording of a folder, which is made where it is not there and holds none yet.
 fn make_first(folder: &[u8], tape: Tape) -> Taping {
     if os::mkdir(folder) < 0 && os::errno() != libc::EEXIST {
-        console::say_of(b"record", folder);
-        os::fail(b" could not be made");
-        return ended(tape, STANDARD, Status::Failed);
+        return unmade(folder, tape, STANDARD);
     }
     if folder::is_folder(folder) && folder::last(folder) != 0 {
-        console::say_of(b"record", folder);
-        io::write_all(
-            STDERR_FILENO,
+        return unfit(
+            folder,
             b" holds recordings already: name another folder\n",
+            tape,
+            STANDARD,
         );
-        return ended(tape, STANDARD, Status::Failed);
     }
     make(folder, 1, tape)
 }
@@ -287,23 +296,26 @@ fn take_row(tape: Tape, output: Output, row: &mut [u8], line: &mut [u8], folder:
     turned(tape, output, filled, row, line, folder)
 }
 
-// Takes rows to the end of the input or the first refusal. The turns count down from a number that no input uses up.
+// Takes rows to the end of the input or the first refusal, of a tape that is not done.
 fn take_rows(first: Taping, row: &mut [u8], line: &mut [u8], folder: &[u8]) -> Taping {
     let is_shown = console::is_shown();
     let mut taping = first;
     let mut turns = u64::MAX;
-    while turns > 0 && !taping.done {
+    while turns > 0 {
         taping = take_row(taping.tape, taping.output, row, line, folder);
-        turns -= 1;
-        if is_shown && turns % ROWS_A_REPORT == 0 {
-            let at = taping.tape;
-            console::show(at.walk);
-        }
+        turns = console::turns_left(turns, taping.done);
+        let at = taping.tape;
+        console::show_turn(is_shown, turns, at.walk);
     }
-    if is_shown {
-        console::end_show();
-    }
+    console::end_turns(is_shown);
     taping
+}
+
+// Says where a tape that ended well did so inside a frame.
+fn say_end(status: Status, walk: Walk) {
+    if status.code() == 0 && walk.lines != 0 && walk.line != 1 {
+        say_part(walk);
+    }
 }
 
 // Says why a tape ended before its input did, or that it ended inside a frame, and answers the exit status.
@@ -315,9 +327,7 @@ fn tell(taping: Taping) -> u32 {
         say_refused(tape.number, walk.line, tape.place);
     }
     status.say_failure(b"record", b"");
-    if status.code() == 0 && walk.lines != 0 && walk.line != 1 {
-        say_part(walk);
-    }
+    say_end(status, walk);
     status.code()
 }
 
@@ -350,7 +360,8 @@ pub fn record_input(system: u32, start_line: u32, folder: &[u8], most: u32) -> u
     if first.done {
         return tell(first);
     }
-    let size = confirmation::line_bytes(tape.walk);
+    let walk = tape.walk;
+    let size = walk.line_bytes();
     let mut row = [0u8; v210::ROW_LENGTH];
     let mut line = [0u8; 2 * System625::LINE_LENGTH];
     tell(close(take_rows(first, &mut row, &mut line[0..size], folder)))

@@ -1,24 +1,38 @@
 -- Laws of the systems' figures and of the walk, for those who cite them. Assumes nothing.
-use Prim.Native.Nat.{ℕ, _+_, _*_, _%_, _<_, _≤_}
+use Prim.Native.Nat.{ℕ, _+_, _*_, _%_, _^_, _<_, _≤_}
 use mathlib.Core.Path.{_≡_, refl, sym, ap, _∙_}
-use mathlib.Core.Bool.{Bool, true, false, _&&_}
+use mathlib.Core.Bool.{Bool, true, false}
 use native.Mathlib.Omega.{arith}
 use lib.Dec.{ltb, leb, eqb}
-use borrow.Author.Tests.{lt-ltb, le-ltb, le-leb, lt-leb, leb-true, leb-false, ltb-false, ltb-true, ne-eqb, eqb-false}
+use borrow.Author.Tests.{lt-ltb, le-ltb, le-leb, lt-leb, leb-true, leb-false, ltb-false, ltb-true, eq-eqb, ne-eqb, eqb-true, eqb-false}
 use Rattle.refusal.specs.declared.Refusal.{Refusal}
+use Rattle.refusal.specs.Numbers.{noSystem, noLine, wrongLength, badCounts}
 use Rattle.refusal.specs.Answer.{none, orElse}
-use Rattle.refusal.proofs.Cases.{by-cond, by-test}
+use Rattle.refusal.proofs.Cases.{by-cond, by-test, and-true, or-neither}
+use Rattle.refusal.proofs.Firsts.{orElse-accepted, orElse-refused, orElse-none, same-number, not-made, length-due}
+use Rattle.timing.specs.declared.CodeReport.{CodeReport}
+use Rattle.timing.specs.declared.CodeReport.the-variants.{Clean, Repaired}
 use Rattle.timing.specs.declared.Report.{Report}
+use Rattle.timing.specs.Report.{repairsIn, repairsOf}
 use Rattle.system.specs.declared.System.{System}
 use Rattle.system.specs.declared.System.the-variants.{Lines525, Lines625}
-use Rattle.system.specs.declared.Walk.{Walk}
+use Rattle.system.specs.declared.due.Due.{Due}
+use Rattle.system.specs.declared.walk.Walk.{Walk}
+use Rattle.system.specs.declared.walk.Judgement.{Judgement}
 use Rattle.system.specs.Figures.{lineLength, savOffset, activeOffset, lineCount, between, isSystem, systemOf, nextLine}
-use Rattle.system.specs.Walk.{mostLines, isLine, walkRefusal, freshWalk, freshRefusal, freshOf, advancedOf, steppedOf}
+use Rattle.system.specs.Due.{dueOf, flag, flagsOf}
+use Rattle.system.specs.Walk.{mostLines, isLine, namedRefusal, walkRefusal, freshWalk, freshOf, standingRefusal, dueBy, advancedOf, movedOf}
+use Rattle.system.specs.Judgement.{refusedAt, acceptedAt, judgementOf}
 
 -- ---- the figures fit each other, and are in range
 pub line-is-parts : (s : System) → lineLength s ≡ activeOffset s + 1440
 line-is-parts Lines525 = refl
 line-is-parts Lines625 = refl
+
+-- no line is longer than the longer system's
+pub longest : (s : System) → lineLength s ≤ lineLength Lines625
+longest Lines525 = omega arith
+longest Lines625 = omega arith
 
 pub sav-low : (s : System) → 6 ≤ savOffset s
 sav-low Lines525 = omega arith
@@ -44,35 +58,58 @@ line-count-high Lines625 = omega arith
 pub between-both : (a b n : ℕ) → a ≤ n → n ≤ b → between a b n ≡ true
 between-both a b n l h = simp (le-leb _ _ l, le-leb _ _ h)
 
-and-left : (a b : Bool) → (a && b) ≡ true → a ≡ true
-and-left true b e = refl
-and-left false b e = e
-
-and-right : (a b : Bool) → (a && b) ≡ true → b ≡ true
-and-right true b e = e
-and-right false b e = cc
-
 pub between-first : (a b n : ℕ) → between a b n ≡ true → a ≤ n
-between-first a b n e = leb-true a n (and-left (leb a n) (leb n b) e)
+between-first a b n e = leb-true a n (and-true (leb a n) (leb n b) e .0)
 
 pub between-last : (a b n : ℕ) → between a b n ≡ true → n ≤ b
-between-last a b n e = leb-true n b (and-right (leb a n) (leb n b) e)
+between-last a b n e = leb-true n b (and-true (leb a n) (leb n b) e .1)
 
--- ---- a fresh walk
-module _ (number start : ℕ) where
-  pub fresh-accepted : isSystem number ≡ true → isLine number start ≡ true
-      → freshOf number start ≡ record { number = 0; place = 0; walk = freshWalk number start }
-  unfolding freshOf freshRefusal orElse
-  fresh-accepted a b = simp (a, b)
+-- ---- a report tells of no more than two repairs
+at-most-one : (r : CodeReport) → repairsIn r ≤ 1
+at-most-one Clean = omega arith
+at-most-one (Repaired bit) = omega arith
 
-  pub fresh-no-line : isSystem number ≡ true → isLine number start ≡ false
-      → freshOf number start ≡ record { number = 2; place = 0; walk = freshWalk 0 0 }
-  unfolding freshOf freshRefusal orElse
-  fresh-no-line a b = simp (a, b)
+pub at-most-two : (r : Report) → repairsOf r ≤ 2
+at-most-two r = omega (arith, at-most-one (r .eav), at-most-one (r .sav))
 
-  pub fresh-no-system : isSystem number ≡ false → freshOf number start ≡ record { number = 1; place = 0; walk = freshWalk 0 0 }
-  unfolding freshOf freshRefusal orElse
-  fresh-no-system a = simp a
+-- ---- the numbers of a system and of a line, and a fresh walk
+module _ (number line : ℕ) where
+  pub named-no-system : isSystem number ≡ false → namedRefusal number line ≡ record { number = noSystem; place = 0 }
+  unfolding namedRefusal orElse
+  named-no-system a = simp a
+
+  pub named-no-line : isSystem number ≡ true → isLine number line ≡ false → namedRefusal number line ≡ record { number = noLine; place = 0 }
+  unfolding namedRefusal orElse
+  named-no-line a b = simp (a, b)
+
+  pub named-accepted : isSystem number ≡ true → isLine number line ≡ true → namedRefusal number line ≡ none
+  unfolding namedRefusal orElse
+  named-accepted a b = simp (a, b)
+
+  -- and the other way round
+  pub record Named : Type 0 where
+    pub a-system : isSystem number ≡ true
+    pub a-line : isLine number line ≡ true
+
+  pub accepted-named : namedRefusal number line .number ≡ 0 → Named
+  accepted-named e =
+      by-test (isSystem number)
+      (λ a. by-test (isLine number line) (λ b. record { a-system = a; a-line = b })
+      (λ b. absurd (let z = sym (same-number (named-no-line a b)) ∙ e in omega (arith, z))))
+      (λ a. absurd (let z = sym (same-number (named-no-system a)) ∙ e in omega (arith, z)))
+
+  pub fresh-named : namedRefusal number line .number ≡ 0 → freshOf number line ≡ record { number = 0; place = 0; walk = freshWalk number line }
+  unfolding freshOf
+  fresh-named e = simp (eq-eqb _ _ e)
+
+  pub fresh-refused : (namedRefusal number line .number ≡ 0 → ⊥)
+      → freshOf number line ≡ record { number = namedRefusal number line .number; place = 0; walk = freshWalk 0 0 }
+  unfolding freshOf
+  fresh-refused n = simp (ne-eqb _ _ n)
+
+  pub fresh-accepted : isSystem number ≡ true → isLine number line ≡ true
+      → freshOf number line ≡ record { number = 0; place = 0; walk = freshWalk number line }
+  fresh-accepted a b = fresh-named (same-number (named-accepted a b))
 
 -- ---- a walk that refuses no line
 pub record Good (w : Walk) : Type 0 where
@@ -82,64 +119,104 @@ pub record Good (w : Walk) : Type 0 where
   pub repairs : w .repairs ≤ 2 * w .lines
 
 module _ (w : Walk) where
-  pub walk-no-system : isSystem (w .system) ≡ false → walkRefusal w ≡ record { number = 1; place = 0 }
-  unfolding walkRefusal orElse
-  walk-no-system a = simp a
+  pub walk-named : (namedRefusal (w .system) (w .line) .number ≡ 0 → ⊥) → walkRefusal w ≡ namedRefusal (w .system) (w .line)
+  unfolding walkRefusal
+  walk-named n = orElse-refused _ _ n
 
-  pub walk-no-line : isSystem (w .system) ≡ true → isLine (w .system) (w .line) ≡ false → walkRefusal w ≡ record { number = 2; place = 0 }
-  unfolding walkRefusal orElse
-  walk-no-line a b = simp (a, b)
+  module _ (named : namedRefusal (w .system) (w .line) .number ≡ 0) where
+    pub walk-many-lines : mostLines ≤ w .lines → walkRefusal w ≡ record { number = badCounts; place = 0 }
+    unfolding walkRefusal
+    walk-many-lines l = orElse-accepted _ _ named ∙ simp (le-leb _ _ l)
 
-  pub walk-many-lines : isSystem (w .system) ≡ true → isLine (w .system) (w .line) ≡ true → mostLines ≤ w .lines
-      → walkRefusal w ≡ record { number = 4; place = 0 }
-  unfolding walkRefusal orElse
-  walk-many-lines a b l = simp (a, b, le-leb _ _ l)
+    pub walk-many-repairs : w .lines < mostLines → 2 * w .lines < w .repairs → walkRefusal w ≡ record { number = badCounts; place = 0 }
+    unfolding walkRefusal
+    walk-many-repairs l m = orElse-accepted _ _ named ∙ simp (lt-leb _ _ l, lt-ltb _ _ m)
 
-  pub walk-many-repairs : isSystem (w .system) ≡ true → isLine (w .system) (w .line) ≡ true → w .lines < mostLines → 2 * w .lines < w .repairs
-      → walkRefusal w ≡ record { number = 4; place = 0 }
-  unfolding walkRefusal orElse
-  walk-many-repairs a b l m = simp (a, b, lt-leb _ _ l, lt-ltb _ _ m)
+    pub walk-few : w .lines < mostLines → w .repairs ≤ 2 * w .lines → walkRefusal w ≡ none
+    unfolding walkRefusal
+    walk-few l m = orElse-accepted _ _ named ∙ simp (lt-leb _ _ l, le-ltb _ _ m)
 
   pub good-accepted : Good w → walkRefusal w ≡ none
-  unfolding walkRefusal orElse
-  good-accepted g = simp (g .system, g .line, lt-leb _ _ (g .lines), le-ltb _ _ (g .repairs))
+  good-accepted g = walk-few (same-number (named-accepted (w .system) (w .line) (g .system) (g .line))) (g .lines) (g .repairs)
 
   -- and the other way round
   pub accepted-good : walkRefusal w .number ≡ 0 → Good w
+  unfolding walkRefusal
   accepted-good e =
-      by-test (isSystem (w .system))
-      (λ a. by-test (isLine (w .system) (w .line))
-      (λ b. by-test (leb mostLines (w .lines))
-      (λ l. absurd (never (walk-many-lines a b (leb-true _ _ l)) (λ z. omega arith)))
-      (λ l. by-test (ltb (2 * w .lines) (w .repairs))
-      (λ m. absurd (never (walk-many-repairs a b (leb-false _ _ l) (ltb-true _ _ m)) (λ z. omega arith)))
-      (λ m. record { system = a; line = b; lines = leb-false _ _ l; repairs = ltb-false _ _ m })))
-      (λ b. absurd (never (walk-no-line a b) (λ z. omega arith))))
-      (λ a. absurd (never (walk-no-system a) (λ z. omega arith)))
-    where
-      never : {r : Refusal} → walkRefusal w ≡ r → (r .number ≡ 0 → ⊥) → ⊥
-      never q n = n (ap (λ (r : Refusal). r .number) (sym q) ∙ e)
+      let both = orElse-none (namedRefusal (w .system) (w .line)) _ e in
+      let named = accepted-named (w .system) (w .line) (both .0) in
+      let few = or-neither (leb mostLines (w .lines)) (ltb (2 * w .lines) (w .repairs)) (not-made _ badCounts 0 (λ z. omega arith) (both .1)) in
+      record { system = named .a-system; line = named .a-line; lines = leb-false _ _ (few .0); repairs = ltb-false _ _ (few .1) }
 
-  pub good-line-high : Good w → w .line ≤ 625
-  unfolding isLine
-  good-line-high g = omega (arith, between-last 1 (lineCount (systemOf (w .system))) (w .line) (g .line), line-count-high (systemOf (w .system)))
+  -- what is due at it is of its system
+  pub due-system : (fourth : ℕ) → dueBy w fourth .system ≡ systemOf (w .system)
+  unfolding dueBy dueOf
+  due-system fourth = refl
 
-  pub stepped-advanced : (r : Report) → Good w → steppedOf w r ≡ advancedOf w r
-  unfolding steppedOf
-  stepped-advanced r g = simp (good-accepted g)
+  -- with room for one more its counts do not wrap
+  pub moved-advanced : (d : Due) (report : Report) → Good w → movedOf w d report ≡ advancedOf w d report
+  unfolding movedOf advancedOf
+  moved-advanced d report g =
+      let two = at-most-two report in
+      let lines : (w .lines + 1) % 2 ^ 32 ≡ w .lines + 1 = omega (arith, g .lines) in
+      let repairs : (w .repairs + repairsOf report) % 2 ^ 32 ≡ w .repairs + repairsOf report = omega (arith, g .lines, g .repairs, two) in
+      rw (lines, repairs)
 
-  pub stepped-stands : (r : Report) → (walkRefusal w .number ≡ 0 → ⊥) → steppedOf w r ≡ w
-  unfolding steppedOf
-  stepped-stands r n = simp (ne-eqb _ _ n)
+  -- ---- before the words are looked at
+  module _ (given due : ℕ) where
+    pub standing-walk : (walkRefusal w .number ≡ 0 → ⊥) → standingRefusal w given due ≡ walkRefusal w
+    standing-walk n = orElse-refused (walkRefusal w) _ n
+
+    module _ (stands : walkRefusal w .number ≡ 0) where
+      pub standing-length : (given ≡ due → ⊥) → standingRefusal w given due ≡ record { number = wrongLength; place = 0 }
+      standing-length n = orElse-accepted (walkRefusal w) _ stands ∙ simp (ne-eqb _ _ n)
+
+      pub standing-accepted : given ≡ due → standingRefusal w given due ≡ none
+      standing-accepted e = orElse-accepted (walkRefusal w) _ stands ∙ simp (eq-eqb _ _ e)
+
+    -- what it lets by
+    pub record Stood : Type 0 where
+      pub walk : walkRefusal w .number ≡ 0
+      pub size : given ≡ due
+
+    pub accepted-stood : standingRefusal w given due .number ≡ 0 → Stood
+    accepted-stood e =
+        let both = orElse-none (walkRefusal w) _ e in
+        record { walk = both .0; size = length-due given due 0 (both .1) }
 
 -- the line after a line of the system is one of the system
 pub next-line-in : (number line : ℕ) → isLine number line ≡ true → isLine number (nextLine (systemOf number) line) ≡ true
 unfolding isLine nextLine
 next-line-in number line h =
     let s = systemOf number in
-    by-cond (λ n. between 1 (lineCount s) n ≡ true) (eqb line (lineCount s)) 1 (line + 1)
+    by-cond (λ n. between 1 (lineCount s) n ≡ true) (ltb line (lineCount s)) (line + 1) 1
+    (λ e. let below = ltb-true line (lineCount s) e in between-both 1 (lineCount s) (line + 1) (omega arith) (omega arith))
     (λ e. between-both 1 (lineCount s) 1 (omega arith) (line-count-low s))
-    (λ e. between-both 1 (lineCount s) (line + 1) (omega arith) (below (eqb-false _ _ e) (between-last 1 (lineCount s) line h)))
-  where
-    below : {n m : ℕ} → (n ≡ m → ⊥) → n ≤ m → n + 1 ≤ m
-    below ne le = omega arith
+
+-- ---- F, V, H are a number below 8
+flag-low : (t : Bool) → flag t ≤ 1
+flag-low true = omega arith
+flag-low false = omega arith
+
+pub flags-low : (d : Due) (h : Bool) → flagsOf d h < 8
+unfolding flagsOf
+flags-low d h = omega (arith, flag-low (d .f), flag-low (d .v), flag-low h)
+
+-- ---- a judgement by its refusal: it has the refusal's number, and where that is 0 it is that of an accepted line
+module _ (r : Refusal) (w : Walk) (d : Due) (report : Report) where
+  pub judgement-accepted : r .number ≡ 0 → judgementOf r w d report ≡ acceptedAt w d report
+  unfolding judgementOf
+  judgement-accepted z = simp (eq-eqb _ _ z)
+
+  pub judgement-refused : (r .number ≡ 0 → ⊥) → judgementOf r w d report ≡ refusedAt w r
+  unfolding judgementOf
+  judgement-refused n = simp (ne-eqb _ _ n)
+
+  pub judgement-number : judgementOf r w d report .number ≡ r .number
+  judgement-number =
+      by-test (eqb (r .number) 0)
+      (λ t. let z = eqb-true _ _ t in ap (λ (j : Judgement). j .number) (judgement-accepted z) ∙ sym z)
+      (λ f. ap (λ (j : Judgement). j .number) (judgement-refused (eqb-false _ _ f)))
+
+  pub judgement-well : judgementOf r w d report .number ≡ 0 → judgementOf r w d report ≡ acceptedAt w d report
+  judgement-well z = judgement-accepted (sym judgement-number ∙ z)

@@ -1,22 +1,29 @@
 -- The promises on fresh walks and walks, of the definitions that the calls' contracts cite. Assumes nothing.
-use Prim.Native.Nat.{ℕ, _*_, _<_, _≤_}
-use mathlib.Core.Path.{_≡_, refl, sym, ap, _∙_}
+use Prim.Native.Nat.{ℕ, _*_}
+use mathlib.Core.Path.{_≡_, sym, ap, subst, _∙_}
 use mathlib.Core.Bool.{true, not, true≢false, _||_}
-use mathlib.Core.Logic.{_⊎_, inl, inr, ⊎-elim}
+use mathlib.Core.Logic.{inl, inr, ⊎-elim}
 use native.Mathlib.Omega.{arith}
 use lib.Dec.{ltb, leb, eqb}
-use borrow.Author.Tests.{lt-ltb, le-leb, lt-leb, leb-true, leb-false, ltb-true, eq-eqb, eqb-true, eqb-false, ne-eqb}
-use Rattle.refusal.specs.Answer.{none, refuse, orElse}
-use Rattle.refusal.specs.Table.{when, _before_, Decides, Keeps}
+use borrow.Author.Tests.{lt-ltb, le-leb, lt-leb, leb-true, leb-false, ltb-true, eq-eqb, eqb-true, ne-eqb}
+use Rattle.refusal.specs.declared.Refusal.{Refusal}
+use Rattle.refusal.specs.Numbers.{noSystem, noLine, wrongLength, badCounts}
+use Rattle.refusal.specs.Answer.{orElse}
+use Rattle.refusal.specs.Table.{when, Decides, Keeps}
 use Rattle.refusal.proofs.Cases.{by-test, not-true, or-either, or-left, or-right}
-use Rattle.refusal.proofs.Tables.{keeps-when, keeps-before, keeps-last, decides-when, decides-before}
+use Rattle.refusal.proofs.Firsts.{orElse-grouped}
+use Rattle.refusal.proofs.Tables.{keeps-when, keeps-unequal, keeps-before, keeps-last, alone, decides-when, decides-before}
+use Rattle.timing.specs.declared.Report.{Report}
 use Rattle.system.specs.declared.System.the-variants.{Lines525, Lines625}
-use Rattle.system.specs.declared.Walk.{Walk}
-use Rattle.system.specs.declared.Fresh.{Fresh}
-use Rattle.system.specs.Figures.{systemNumber, lineCount, between, isSystem, systemOf}
-use Rattle.system.specs.Walk.{mostLines, isLine, systemRefusal, lineRefusal, countRefusal, walkRefusal, freshRefusal, freshOf}
-use Rattle.system.specs.Refusals.{NoSystem, NoLine, BadCounts, freshRefusals, walkRefusals}
-use Rattle.system.proofs.Laws.{between-both, between-first, between-last}
+use Rattle.system.specs.declared.walk.Walk.{Walk}
+use Rattle.system.specs.declared.walk.Fresh.{Fresh}
+use Rattle.system.specs.declared.walk.Judgement.{Judgement}
+use Rattle.system.specs.declared.due.Due.{Due}
+use Rattle.system.specs.Figures.{systemNumber, lineCount, isSystem, systemOf}
+use Rattle.system.specs.Walk.{mostLines, isLine, systemRefusal, numberRefusal, namedRefusal, countRefusal, walkRefusal, freshOf, standingRefusal, movedOf}
+use Rattle.system.specs.Judgement.{refusedAt, movedAt}
+use Rattle.system.specs.Refusals.{NoSystem, NoLine, BadCounts, namedRefusals, walkRefusals, standingRefusals}
+use Rattle.system.proofs.Laws.{between-both}
 
 -- ---- each test is its condition
 no-system : (number : ℕ) → not (isSystem number) ≡ true → NoSystem number
@@ -56,50 +63,75 @@ counts-bad w (inr b) = or-right (leb mostLines (w .lines)) _ (lt-ltb _ _ b)
 
 -- the refusals as the definitions list them
 module _ (number line : ℕ) where
-  keeps-system : Keeps (when (NoSystem number) 1 0) (systemRefusal number)
-  keeps-system = keeps-when (not (isSystem number)) (NoSystem number) 1 0 (no-system number) (system-none number) (λ z. omega arith)
+  keeps-system : Keeps (when (NoSystem number) noSystem 0) (systemRefusal number)
+  keeps-system = keeps-when (not (isSystem number)) (NoSystem number) noSystem 0 (no-system number) (system-none number) (λ z. omega arith)
 
-  keeps-line : Keeps (when (NoLine number line) 2 0) (lineRefusal number line)
-  keeps-line = keeps-when (not (isLine number line)) (NoLine number line) 2 0 (no-line number line) (line-none number line) (λ z. omega arith)
+  keeps-line : Keeps (when (NoLine number line) noLine 0) (numberRefusal number line)
+  keeps-line = keeps-when (not (isLine number line)) (NoLine number line) noLine 0 (no-line number line) (line-none number line) (λ z. omega arith)
 
 -- ---- Each refusal comes exactly when its condition holds and none earlier does.
-pub fresh-exact : (number start : ℕ) → Keeps (freshRefusals number start) (freshRefusal number start)
-unfolding freshRefusal
-fresh-exact number start =
-    keeps-before _ _ (systemRefusal number) _ (keeps-system number start)
-    (keeps-last _ (lineRefusal number start) (keeps-line number start))
+module _ (number line : ℕ) where
+  pub named-exact : Keeps (namedRefusals number line) (namedRefusal number line)
+  unfolding namedRefusal
+  named-exact =
+      keeps-before _ _ (systemRefusal number) _ (keeps-system number line) (keeps-last _ (numberRefusal number line) (keeps-line number line))
 
-pub walk-exact : (w : Walk) → Keeps (walkRefusals w) (walkRefusal w)
-unfolding walkRefusal
-walk-exact w =
-    keeps-before _ _ (systemRefusal (w .system)) _ (keeps-system (w .system) (w .line))
-    (keeps-before _ _ (lineRefusal (w .system) (w .line)) _ (keeps-line (w .system) (w .line))
-    (keeps-last _ (countRefusal (w .lines) (w .repairs))
-    (keeps-when _ (BadCounts w) 4 0 (bad-counts w) (counts-bad w) (λ z. omega arith))))
+  pub named-decides : Decides (namedRefusals number line)
+  named-decides = decides-before _ _ (decides-when (NoSystem number) noSystem 0) (decides-when (NoLine number line) noLine 0)
 
-pub fresh-decides : (number start : ℕ) → Decides (freshRefusals number start)
-fresh-decides number start = decides-before _ _ (decides-when (NoSystem number) 1 0) (decides-when (NoLine number start) 2 0)
+module _ (w : Walk) where
+  pub walk-exact : Keeps (walkRefusals w) (walkRefusal w)
+  unfolding walkRefusal namedRefusal
+  walk-exact =
+      let system = systemRefusal (w .system) in
+      let line = numberRefusal (w .system) (w .line) in
+      subst (Keeps (walkRefusals w))
+      (orElse-grouped system line _ ∙ ap (λ (r : Refusal). orElse (orElse system r) (countRefusal (w .lines) (w .repairs))) (sym (alone _ line (keeps-line (w .system) (w .line)))))
+      (keeps-before _ _ system _ (keeps-system (w .system) (w .line))
+      (keeps-before _ _ line _ (keeps-line (w .system) (w .line))
+      (keeps-when _ (BadCounts w) badCounts 0 (bad-counts w) (counts-bad w) (λ z. omega arith))))
 
-pub walk-decides : (w : Walk) → Decides (walkRefusals w)
-walk-decides w =
-    decides-before _ _ (decides-when (NoSystem (w .system)) 1 0)
-    (decides-before _ _ (decides-when (NoLine (w .system) (w .line)) 2 0) (decides-when (BadCounts w) 4 0))
+  pub walk-decides : Decides (walkRefusals w)
+  walk-decides =
+      decides-before _ _ (decides-when (NoSystem (w .system)) noSystem 0)
+      (decides-before _ _ (decides-when (NoLine (w .system) (w .line)) noLine 0) (decides-when (BadCounts w) badCounts 0))
+
+  pub standing-exact : (given due : ℕ) → Keeps (standingRefusals w given due) (standingRefusal w given due)
+  standing-exact given due = keeps-before _ _ (walkRefusal w) _ walk-exact (keeps-unequal given due 0)
+
+  pub standing-decides : (given due : ℕ) → Decides (standingRefusals w given due)
+  standing-decides given due = decides-before _ _ walk-decides (decides-when (given ≡ due → ⊥) wrongLength 0)
 
 -- The number of a fresh walk's answer is that refusal's.
-pub fresh-number : (number start : ℕ) → freshOf number start .number ≡ freshRefusal number start .number
+pub fresh-number : (number start : ℕ) → freshOf number start .number ≡ namedRefusal number start .number
 unfolding freshOf
 fresh-number number start =
-    by-test (eqb (freshRefusal number start .number) 0)
+    by-test (eqb (namedRefusal number start .number) 0)
     (λ e. simp e (sym (eqb-true _ _ e))) (λ e. simp e)
+
+-- and so its place: the answer is that refusal.
+pub fresh-refusal : (number start : ℕ) → namedRefusal number start ≡ record { number = freshOf number start .number; place = freshOf number start .place }
+unfolding freshOf namedRefusal orElse
+fresh-refusal number start =
+    by-test (isSystem number) (λ a. by-test (isLine number start) (λ b. simp (a, b)) (λ b. simp (a, b))) (λ a. simp a)
 
 -- "its refusal returns a walk all zero"
 pub fresh-refused-zero : (number start : ℕ) → (freshOf number start .number ≡ 0 → ⊥)
     → freshOf number start .walk ≡ record { system = 0; line = 0; lines = 0; repairs = 0 }
 unfolding freshOf
 fresh-refused-zero number start refused =
-    by-test (eqb (freshRefusal number start .number) 0)
+    by-test (eqb (namedRefusal number start .number) 0)
     (λ e. absurd (refused (fresh-number number start ∙ eqb-true _ _ e))) (λ e. simp e)
 
 -- ---- Two results allowed for one input are the same.
 pub fresh-one-result : (number start : ℕ) (r s : Fresh) → r ≡ freshOf number start → s ≡ freshOf number start → r ≡ s
 fresh-one-result number start r s e f = e ∙ sym f
+
+pub moved-one-result : (w : Walk) (d : Due) (report : Report) (r s : Walk) → r ≡ movedOf w d report → s ≡ movedOf w d report → r ≡ s
+moved-one-result w d report r s e f = e ∙ sym f
+
+pub refused-one-result : (w : Walk) (refusal : Refusal) (r s : Judgement) → r ≡ refusedAt w refusal → s ≡ refusedAt w refusal → r ≡ s
+refused-one-result w refusal r s e f = e ∙ sym f
+
+pub accepted-one-result : (w : Walk) (d : Due) (report : Report) (r s : Judgement) → r ≡ movedAt w d report → s ≡ movedAt w d report → r ≡ s
+accepted-one-result w d report r s e f = e ∙ sym f

@@ -1,7 +1,7 @@
 -- Document 01, "Numbers and layout": the figures of each system, and F and V of a line.
 use Prim.Native.Nat.{ℕ, _+_}
 use mathlib.Core.Bool.{Bool, cond, _&&_, _||_}
-use lib.Dec.{leb, eqb}
+use lib.Dec.{ltb, leb, eqb}
 use Rattle.system.specs.declared.System.{System}
 use Rattle.system.specs.declared.System.the-variants.{Lines525, Lines625}
 
@@ -44,7 +44,7 @@ fOf Lines625 n = between 313 625 n
 
 -- "After the last line comes line 1."
 unfoldable pub nextLine : System → ℕ → ℕ
-nextLine s n = cond (eqb n (lineCount s)) 1 (n + 1)
+nextLine s n = cond (ltb n (lineCount s)) (n + 1) 1
 
 -- "system is neither 525 nor 625"
 unfoldable pub isSystem : ℕ → Bool

@@ -1,3 +1,5 @@
 pub mod Figures
+pub mod Due
 pub mod Walk
+pub mod Judgement
 pub mod Refusals

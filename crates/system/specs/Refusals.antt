@@ -2,9 +2,10 @@
 use Prim.Native.Nat.{ℕ, _*_, _<_, _≤_}
 use mathlib.Core.Path.{_≡_}
 use mathlib.Core.Logic.{_⊎_}
+use Rattle.refusal.specs.Numbers.{noSystem, noLine, wrongLength, badCounts}
 use Rattle.refusal.specs.Table.{Row, when, _before_}
 use Rattle.system.specs.declared.System.the-variants.{Lines525, Lines625}
-use Rattle.system.specs.declared.Walk.{Walk}
+use Rattle.system.specs.declared.walk.Walk.{Walk}
 use Rattle.system.specs.Figures.{systemNumber, lineCount, systemOf}
 use Rattle.system.specs.Walk.{mostLines}
 
@@ -20,9 +21,15 @@ NoLine number line = (line < 1) ⊎ (lineCount (systemOf number) < line)
 abbrev pub BadCounts : Walk → Type 0
 BadCounts w = (mostLines ≤ w .lines) ⊎ (2 * w .lines < w .repairs)
 
-abbrev pub freshRefusals : ℕ → ℕ → Row
-freshRefusals number start = when (NoSystem number) 1 0 before when (NoLine number start) 2 0
+-- "A fresh walk: 1, 2", and so every call that is given the numbers of a system and of a line
+abbrev pub namedRefusals : ℕ → ℕ → Row
+namedRefusals number line = when (NoSystem number) noSystem 0 before when (NoLine number line) noLine 0
 
+-- what refuses every line at a walk: "1, 2, 4"
 abbrev pub walkRefusals : Walk → Row
 walkRefusals w =
-    when (NoSystem (w .system)) 1 0 before when (NoLine (w .system) (w .line)) 2 0 before when (BadCounts w) 4 0
+    when (NoSystem (w .system)) noSystem 0 before when (NoLine (w .system) (w .line)) noLine 0 before when (BadCounts w) badCounts 0
+
+-- before the words are looked at: "1, 2, 4, 3", where so many are given and so many due
+abbrev pub standingRefusals : Walk → ℕ → ℕ → Row
+standingRefusals w given due = walkRefusals w before when (given ≡ due → ⊥) wrongLength 0

@@ -1,13 +1,20 @@
-// The two systems with their figures, and the walk over consecutive lines of one of them.
+// The two systems with their figures, what is due in a line of theirs, and the walk over consecutive lines of one of them.
+mod due;
+mod walk;
+
+pub use due::Due;
+pub use due::FillWords;
+pub use walk::Fresh;
+pub use walk::Judgement;
+pub use walk::Walk;
+pub use walk::fresh_walk;
+pub use walk::repairs;
 ghost use mathlib.Core.Path.{_≡_};
-ghost use Prim.Native.Nat.{_≤_, _<_, _+_};
 ghost use Rattle.system.specs.declared.System.the-variants.{Lines525, Lines625};
-ghost use Rattle.system.specs.Figures.{between, isSystem, systemOf, lineLength, savOffset, lineCount, vOf, fOf, nextLine};
-ghost use Rattle.system.specs.Walk.{isLine, walkRefusal, freshOf, steppedOf, advancedOf};
-ghost use Rattle.timing.specs.Report.{repairsIn, repairsOf};
+ghost use Rattle.system.specs.Figures.{between, isSystem, systemOf, lineLength, savOffset, activeOffset, lineCount, vOf, fOf, nextLine};
+ghost use Rattle.system.specs.Walk.{namedRefusal, freshOf};
+use refusal::Number;
 use refusal::Refusal;
-use timing::CodeReport;
-use timing::Report;
 
 // Document 01's two systems.
 pub enum System {
@@ -51,10 +58,7 @@ impl System525 {
     pub fn fresh_walk(start: u32) -> Fresh
         ensures { λ r. ⌜ r ≡ freshOf 525 start ⌝ }
     {
-        if within(1, Self::LINE_COUNT, start) {
-            return Fresh::accepted(Self::NUMBER, start);
-        }
-        Fresh::refused(2)
+        fresh_walk(Self::NUMBER, start)
     }
 }
 
@@ -94,10 +98,7 @@ impl System625 {
     pub fn fresh_walk(start: u32) -> Fresh
         ensures { λ r. ⌜ r ≡ freshOf 625 start ⌝ }
     {
-        if within(1, Self::LINE_COUNT, start) {
-            return Fresh::accepted(Self::NUMBER, start);
-        }
-        Fresh::refused(2)
+        fresh_walk(Self::NUMBER, start)
     }
 }
 
@@ -130,6 +131,13 @@ impl System {
         }
     }
 
+    // Where the active part starts: after the four words of SAV.
+    pub fn active_offset(self) -> usize
+        ensures { λ r. ⌜ r ≡ activeOffset self ⌝ }
+    {
+        self.sav_offset() + 4
+    }
+
     pub fn line_count(self) -> u32
         ensures { λ r. ⌜ r ≡ lineCount self ⌝ }
     {
@@ -156,66 +164,16 @@ impl System {
             System::Lines625 => System625::f(line),
         }
     }
-}
 
-// Where a reader of consecutive lines stands: the system's number, the awaited line, and what was counted so far.
-pub struct Walk {
-    pub system: u32,
-    pub line: u32,
-    pub lines: u32,
-    pub repairs: u32,
-}
-
-// The answer to a fresh walk: a refusal returns a walk all zero.
-pub struct Fresh {
-    pub number: u32,
-    pub place: usize,
-    pub walk: Walk,
-}
-
-impl Fresh {
-    fn accepted(system: u32, start: u32) -> Fresh
-        ensures { λ r. ⌜ r ≡ record { number = 0; place = 0; walk = record { system = system; line = start; lines = 0; repairs = 0 } } ⌝ }
+    // The line after a line: after the last comes line 1.
+    pub fn next_line(self, line: u32) -> u32
+        ensures { λ r. ⌜ r ≡ nextLine self line ⌝ }
     {
-        Fresh {
-            number: 0,
-            place: 0,
-            walk: Walk {
-                system,
-                line: start,
-                lines: 0,
-                repairs: 0,
-            },
+        if line < self.line_count() {
+            return line + 1;
         }
+        1
     }
-
-    fn refused(number: u32) -> Fresh
-        ensures { λ r. ⌜ r ≡ record { number = number; place = 0; walk = record { system = 0; line = 0; lines = 0; repairs = 0 } } ⌝ }
-    {
-        Fresh {
-            number,
-            place: 0,
-            walk: Walk {
-                system: 0,
-                line: 0,
-                lines: 0,
-                repairs: 0,
-            },
-        }
-    }
-}
-
-// A fresh walk of any system from any line: 1, 2.
-pub fn fresh_walk(system: u32, start: u32) -> Fresh
-    ensures { λ r. ⌜ r ≡ freshOf system start ⌝ }
-{
-    if system == System525::NUMBER {
-        return System525::fresh_walk(start);
-    }
-    if system == System625::NUMBER {
-        return System625::fresh_walk(start);
-    }
-    Fresh::refused(1)
 }
 
 fn within(first: u32, last: u32, line: u32) -> bool
@@ -236,86 +194,21 @@ fn is_system(number: u32) -> bool
     number == System625::NUMBER
 }
 
-fn next_line(system: System, line: u32) -> u32
-    requires { ⌜ line ≤ 625 ⌝ }
-    ensures { λ r. ⌜ r ≡ nextLine system line ⌝ }
+// What refuses the numbers of a system and of a line: 1, 2.
+pub fn named_refusal(system: u32, line: u32) -> Refusal
+    ensures { λ r. ⌜ r ≡ namedRefusal system line ⌝ }
 {
-    if line == system.line_count() {
-        return 1;
-    }
-    line + 1
-}
-
-fn repairs_in(report: CodeReport) -> u32
-    ensures { λ r. ⌜ (r ≡ repairsIn report) × (r ≤ 1) ⌝ }
-{
-    match report {
-        CodeReport::Clean => 0,
-        CodeReport::Repaired { bit } => 1,
-    }
-}
-
-// The codes that a report tells as repaired: 0 to 2.
-pub fn repairs(report: Report) -> u32
-    ensures { λ r. ⌜ r ≡ repairsOf report ⌝ }
-{
-    let eav = report.eav;
-    let sav = report.sav;
-    repairs_in(eav) + repairs_in(sav)
-}
-
-impl Walk {
-    pub const MOST_LINES: u32 = 10_000_000;
-
-    // What refuses every line at this walk: 1, 2, 4.
-    pub fn refusal(self) -> Refusal
-        ensures { λ r. ⌜ r ≡ walkRefusal self ⌝ }
-    {
-        let number = self.system;
-        if !is_system(number) {
-            return Refusal {
-                number: 1,
-                place: 0,
-            };
-        }
-        if !within(1, system_of(number).line_count(), self.line) {
-            return Refusal {
-                number: 2,
-                place: 0,
-            };
-        }
-        if Self::MOST_LINES <= self.lines {
-            return Refusal {
-                number: 4,
-                place: 0,
-            };
-        }
-        if 2 * self.lines < self.repairs {
-            return Refusal {
-                number: 4,
-                place: 0,
-            };
-        }
-        Refusal {
-            number: 0,
+    if !is_system(system) {
+        return Refusal {
+            number: Number::NO_SYSTEM,
             place: 0,
-        }
+        };
     }
-
-    // The walk after an accepted line with this report; a walk that refuses every line stands.
-    pub fn stepped(self, report: Report) -> Walk
-        ensures { λ r. ⌜ r ≡ steppedOf self report ⌝ }
-    {
-        if self.refusal().number != 0 {
-            return self;
-        }
-        let next = next_line(system_of(self.system), self.line);
-        let count = repairs(report);
-        Walk {
-            system: self.system,
-            line: next,
-            lines: self.lines + 1,
-            repairs: self.repairs + count,
-        }
+    if !within(1, system_of(system).line_count(), line) {
+        return Refusal {
+            number: Number::NO_LINE,
+            place: 0,
+        };
     }
+    Refusal::NONE
 }

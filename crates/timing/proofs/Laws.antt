@@ -1,10 +1,11 @@
 -- Laws of the definitions that other proofs cite, each computed over all patterns and lifted. Assumes nothing.
-use Prim.Native.Nat.{ℕ, zero, suc, _+_, _*_, _/_, _%_, _<_, _≤_}
+use Prim.Native.Nat.{ℕ, zero, suc, _/_, _%_, _<_, _≤_}
 use mathlib.Core.Path.{_≡_, refl, sym, ap, subst, _∙_}
-use mathlib.Core.Bool.{Bool, cond}
+use mathlib.Core.Bool.{Bool}
 use native.Mathlib.Omega.{arith}
 use lib.Dec.{T, ltb, leb, eqb, eqb→eq, ltb→lt, leb→le, le→leb, lit<}
 use borrow.Author.Tests.{lt-ltb, le-ltb, ltb-true, ltb-false, eq-eqb, ne-eqb}
+use Rattle.refusal.specs.Numbers.{numberBound}
 use Rattle.refusal.proofs.Cases.{by-cond, by-test}
 use Rattle.timing.specs.declared.Correction.{Correction}
 use Rattle.timing.specs.declared.Correction.the-variants.{Clean, Repaired, Refused}
@@ -133,12 +134,12 @@ one-repair (report.Repaired bit) = omega arith
 abbrev pub Bounded : Correction → Type 0
 Bounded (Clean fvh) = fvh < 8
 Bounded (Repaired fvh bit) = (fvh < 8) × (bit < 9) × (2 ≤ bit)
-Bounded (Refused number) = number < 16
+Bounded (Refused number) = number < numberBound
 
 bounded? : Correction → Bool
 bounded? (Clean fvh) = ltb fvh 8
 bounded? (Repaired fvh bit) = both (ltb fvh 8) (both (ltb bit 9) (leb 2 bit))
-bounded? (Refused number) = ltb number 16
+bounded? (Refused number) = ltb number numberBound
 
 to-bounded : (c : Correction) → T (bounded? c) → Bounded c
 unfolding bounded?
@@ -146,7 +147,7 @@ to-bounded (Clean fvh) t = ltb→lt fvh 8 t
 to-bounded (Repaired fvh bit) t =
     let bits = both-right (ltb fvh 8) (both (ltb bit 9) (leb 2 bit)) t in
     (ltb→lt fvh 8 (both-left (ltb fvh 8) _ t), ltb→lt bit 9 (both-left (ltb bit 9) (leb 2 bit) bits), leb→le 2 bit (both-right (ltb bit 9) (leb 2 bit) bits))
-to-bounded (Refused number) t = ltb→lt number 16 t
+to-bounded (Refused number) t = ltb→lt number numberBound t
 
 pattern-bounded : (p : ℕ) → p < 128 → Bounded (patternCorrection p)
 unfolding correctionBelow bounded?

@@ -1,22 +1,20 @@
 -- The promises on timing codes, each of the definitions that the calls' contracts cite. Assumes nothing.
-use Prim.Native.Nat.{ℕ, zero, suc, _+_, _-_, _*_, _/_, _%_, _^_, _<_, _≤_}
+use Prim.Native.Nat.{ℕ, _+_, _-_, _*_, _/_, _%_, _^_, _<_, _≤_}
 use mathlib.Core.Path.{_≡_, refl, sym, ap, subst, _∙_}
-use mathlib.Core.Bool.{Bool, true, false, not, cond}
+use mathlib.Core.Bool.{Bool, true, false, cond}
 use mathlib.Core.Logic.{_⊎_, inl, inr, ⊎-elim}
 use native.Mathlib.Omega.{arith}
 use lib.Dec.{T, ltb, leb, eqb, eqb→eq, ltb→lt, le→leb, lt→ltb}
 use lib.Bits.{bitXor}
 use lib.Count.{onesIn, ones, trailingZeros}
 use borrow.Author.Tests.{lt-ltb, le-ltb, ltb-true, ltb-false, leb-true, leb-false, eqb-true, eq-eqb}
-use Rattle.refusal.specs.declared.Refusal.{Refusal}
-use Rattle.refusal.specs.Answer.{refuse, orElse}
-use Rattle.refusal.specs.Table.{when, _before_, Decides, Keeps}
+use Rattle.refusal.specs.Table.{Decides, Keeps}
 use Rattle.refusal.proofs.Cases.{by-test}
 use Rattle.refusal.proofs.Tables.{Numbers, keeps-number, numbers-when, numbers-before, decides-when, decides-before}
 use Rattle.timing.specs.declared.Correction.{Correction}
 use Rattle.timing.specs.declared.Correction.the-variants.{Clean, Repaired, Refused}
 use Rattle.timing.specs.Code.{legalOf, fourthOf, sevenOf, distanceOf, bitOf, correctionBelow, patternCorrection, correctionOf}
-use Rattle.timing.specs.Report.{numberOf, numberWhere, Values, valuesOf}
+use Rattle.timing.specs.Report.{numberOf, numberWhere, valuesOf}
 use Rattle.timing.specs.Refusals.{NoneWithinOne, fourthRefusals, correctionRefusals, refusalOf}
 use Rattle.timing.proofs.Every.{both, both-left, both-right, implies, meet, every, countBelow, lift, lift2, lift3, gather}
 use Rattle.timing.proofs.Same.{same, same→eq}

@@ -4,18 +4,20 @@ use mathlib.Core.Bool.{cond}
 use lib.Dec.{ltb, eqb}
 use lib.Bits.{bitXor}
 use lib.Count.{ones, trailingZeros}
+use Rattle.refusal.specs.Numbers.{overTen, bitNine, beyondCorrection}
+use Rattle.words.specs.Words.{mostWord}
 use Rattle.timing.specs.declared.Correction.{Correction}
 use Rattle.timing.specs.declared.Correction.the-variants.{Clean, Repaired, Refused}
 
 -- F, V and H of a number from 0 to 7, as in "FVH 000 to 111"
-abbrev pub fOf : ℕ → ℕ
-fOf fvh = fvh / 4 % 2
+abbrev pub fBit : ℕ → ℕ
+fBit fvh = fvh / 4 % 2
 
-abbrev pub vOf : ℕ → ℕ
-vOf fvh = fvh / 2 % 2
+abbrev pub vBit : ℕ → ℕ
+vBit fvh = fvh / 2 % 2
 
-abbrev pub hOf : ℕ → ℕ
-hOf fvh = fvh % 2
+abbrev pub hBit : ℕ → ℕ
+hBit fvh = fvh % 2
 
 -- "F, V, H, P3, P2, P1, P0", with "P3 = V xor H, P2 = F xor H, P1 = F xor V, P0 = F xor V xor H"
 abbrev pub sevenBits : ℕ → ℕ → ℕ → ℕ
@@ -24,7 +26,7 @@ sevenBits f v h =
 
 -- the legal pattern of F, V, H
 unfoldable pub legalOf : ℕ → ℕ
-legalOf fvh = sevenBits (fOf fvh) (vOf fvh) (hOf fvh)
+legalOf fvh = sevenBits (fBit fvh) (vBit fvh) (hBit fvh)
 
 -- "bit 9 is 1, then F, V, H, P3, P2, P1, P0 in bits 8 to 2, then two low bits", which the writer sets to 0
 unfoldable pub fourthOf : ℕ → ℕ
@@ -52,7 +54,7 @@ byDistance distance clean repaired others = cond (eqb distance 0) clean (cond (e
 -- what the legal patterns of FVH below n say of seven bits
 unfoldable pub correctionBelow : ℕ → ℕ → Correction
 unfolding legalOf distanceOf bitOf
-correctionBelow zero p = Refused 8
+correctionBelow zero p = Refused beyondCorrection
 correctionBelow (suc k) p =
     byDistance (distanceOf p (legalOf k)) (Clean k) (Repaired k (bitOf p (legalOf k))) (correctionBelow k p)
 
@@ -64,4 +66,4 @@ patternCorrection p = correctionBelow 8 p
 unfoldable pub correctionOf : ℕ → Correction
 unfolding correctionBelow
 correctionOf word =
-    cond (ltb 1023 word) (Refused 5) (cond (eqb (word / 512 % 2) 0) (Refused 7) (patternCorrection (sevenOf word)))
+    cond (ltb mostWord word) (Refused overTen) (cond (eqb (word / 512 % 2) 0) (Refused bitNine) (patternCorrection (sevenOf word)))

@@ -1,7 +1,8 @@
 -- Document 01's number and values for each case of the answers that are enums.
 use Prim.Native.Nat.{ℕ, _+_}
-use mathlib.Core.Bool.{Bool, cond}
+use mathlib.Core.Bool.{cond}
 use lib.Dec.{eqb}
+use Rattle.refusal.specs.Numbers.{notDue}
 use Rattle.timing.specs.declared.Correction.{Correction}
 use Rattle.timing.specs.declared.Correction.the-variants as correction
 use Rattle.timing.specs.declared.CodeReport.{CodeReport}
@@ -16,8 +17,8 @@ numberOf (correction.Refused number) = number
 
 -- the number where these F, V, H are due: "9, the corrected F, V, H are not those due here"
 abbrev pub numberWhere : ℕ → Correction → ℕ
-numberWhere due (correction.Clean fvh) = cond (eqb fvh due) 0 9
-numberWhere due (correction.Repaired fvh bit) = cond (eqb fvh due) 0 9
+numberWhere due (correction.Clean fvh) = cond (eqb fvh due) 0 notDue
+numberWhere due (correction.Repaired fvh bit) = cond (eqb fvh due) 0 notDue
 numberWhere due (correction.Refused number) = number
 
 -- what a correction answers: a refusal's number, or 0 and F, V, H with the repaired bit's number, 0 where the word was clean

@@ -3,6 +3,8 @@
 ghost use mathlib.Core.Path.{_≡_};
 ghost use Rattle.timing.specs.Code.{legalOf, fourthOf, patternCorrection, correctionOf};
 ghost use Rattle.timing.specs.Report.{codeReportOf};
+use refusal::Number;
+use words::MOST_WORD;
 
 // What correction finds. A bit is told by its number in the word, 2 to 8.
 pub enum Correction {
@@ -59,18 +61,24 @@ fn correct_pattern(pattern: u32) -> Correction
             };
         }
     }
-    Correction::Refused { number: 8 }
+    Correction::Refused {
+        number: Number::BEYOND_CORRECTION,
+    }
 }
 
 // The correction of a word that was read as a fourth word, whatever word it is.
 pub fn correct(word: u16) -> Correction
     ensures { λ r. ⌜ r ≡ correctionOf word ⌝ }
 {
-    if 1023 < word {
-        return Correction::Refused { number: 5 };
+    if MOST_WORD < word {
+        return Correction::Refused {
+            number: Number::OVER,
+        };
     }
     if word < 512 {
-        return Correction::Refused { number: 7 };
+        return Correction::Refused {
+            number: Number::BIT_NINE,
+        };
     }
     correct_pattern((word / 4 % 128) as u32)
 }
@@ -79,11 +87,15 @@ pub fn correct(word: u16) -> Correction
 pub fn correct_expecting(word: u16, fvh: u32) -> Correction
     ensures { λ r. ⌜ r ≡ correctionOf word ⌝ }
 {
-    if 1023 < word {
-        return Correction::Refused { number: 5 };
+    if MOST_WORD < word {
+        return Correction::Refused {
+            number: Number::OVER,
+        };
     }
     if word < 512 {
-        return Correction::Refused { number: 7 };
+        return Correction::Refused {
+            number: Number::BIT_NINE,
+        };
     }
     let expected = fvh % 8;
     let difference = (word / 4 % 128) as u32 ^ legal(expected);

@@ -2,10 +2,11 @@
 use Prim.Native.Nat.{ℕ, _+_, _*_, _/_, _%_, _<_, _≤_}
 use mathlib.Core.Path.{_≡_}
 use native.Mathlib.Omega.{arith}
-use Rattle.v210.specs.Row.{tenBits, eightBits}
+use Rattle.words.specs.Words.{mostWord}
+use Rattle.v210.specs.Row.{tenBits, mostRowWord, eightBits}
 
 -- ---- Ten bits: three of them below 2 to the 30.
-module _ (first second third : ℕ) (f : first ≤ 1023) (s : second ≤ 1023) (t : third ≤ 1023) where
+module _ (first second third : ℕ) (f : first ≤ mostWord) (s : second ≤ mostWord) (t : third ≤ mostWord) where
   pub first-ten : tenBits (first + 1024 * second + 1048576 * third) 0 ≡ first
   first-ten = omega arith
 
@@ -15,10 +16,10 @@ module _ (first second third : ℕ) (f : first ≤ 1023) (s : second ≤ 1023) (
   pub third-ten : tenBits (first + 1024 * second + 1048576 * third) 2 ≡ third
   third-ten = omega arith
 
-  pub tens-bounded : first + 1024 * second + 1048576 * third ≤ 1073741823
+  pub tens-bounded : first + 1024 * second + 1048576 * third ≤ mostRowWord
   tens-bounded = omega arith
 
-pub of-tens : (word : ℕ) → word ≤ 1073741823 → tenBits word 0 + 1024 * tenBits word 1 + 1048576 * tenBits word 2 ≡ word
+pub of-tens : (word : ℕ) → word ≤ mostRowWord → tenBits word 0 + 1024 * tenBits word 1 + 1048576 * tenBits word 2 ≡ word
 of-tens word h = omega arith
 
 -- ---- Eight bits: four of them below 2 to the 32.

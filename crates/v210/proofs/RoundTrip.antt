@@ -7,17 +7,18 @@ use lib.Dec.{eqb, ltb}
 use lib.ListN.{length, getD, List·getD-eq-default}
 use borrow.Author.Tests.{ltb-true, ltb-false}
 use Rattle.refusal.proofs.Cases.{by-cond, by-test}
+use Rattle.words.specs.Words.{mostWord}
 use Rattle.line.specs.Samples.{activeLength}
-use Rattle.line.proofs.Tabs.{length-tab, getD-tab, is-tab}
-use Rattle.v210.specs.Row.{rowLength, rowWords, rowWord, tenBits, rowSample, unpackedOf, samplesWord, eightBits, rowByte, packedOf}
+use Rattle.words.proofs.Tabs.{length-tab, getD-tab, is-tab}
+use Rattle.v210.specs.Row.{rowLength, rowWords, rowWord, mostRowWord, tenBits, rowSample, unpackedOf, samplesWord, eightBits, rowByte, packedOf}
 use Rattle.v210.proofs.Digits.{first-ten, second-ten, third-ten, tens-bounded, of-tens, first-eight, second-eight, third-eight, fourth-eight, of-eights}
 use Rattle.v210.proofs.Places.{sample-at, byte-at, every-sample, every-byte}
 
 -- ---- What is unpacked: 1440 samples of ten bits.
-ten-small : (word n : ℕ) → tenBits word n ≤ 1023
+ten-small : (word n : ℕ) → tenBits word n ≤ mostWord
 ten-small word n =
-    by-cond (λ v. v ≤ 1023) (eqb n 0) _ _ (λ t. omega arith)
-    (λ f. by-cond (λ v. v ≤ 1023) (eqb n 1) _ _ (λ t. omega arith) (λ g. omega arith))
+    by-cond (λ v. v ≤ mostWord) (eqb n 0) _ _ (λ t. omega arith)
+    (λ f. by-cond (λ v. v ≤ mostWord) (eqb n 1) _ _ (λ t. omega arith) (λ g. omega arith))
 
 module _ (row : List ℕ) where
   pub unpacked-length : length (unpackedOf row) ≡ activeLength
@@ -29,7 +30,7 @@ module _ (row : List ℕ) where
   unfolding unpackedOf
   unpacked-at k n l h = getD-tab (rowSample row) activeLength (3 * k + n) (omega arith) ∙ sample-at row k n h
 
-  pub unpacked-small : (i : ℕ) → getD (unpackedOf row) i 0 ≤ 1023
+  pub unpacked-small : (i : ℕ) → getD (unpackedOf row) i 0 ≤ mostWord
   unfolding unpackedOf
   unpacked-small i =
       by-test (ltb i activeLength)
@@ -48,7 +49,7 @@ module _ (samples : List ℕ) where
   packed-at k n l h = getD-tab (rowByte samples) rowLength (4 * k + n) (omega arith) ∙ byte-at samples k n h
 
 -- ---- Unpacking undoes packing.
-module _ (samples : List ℕ) (small : (i : ℕ) → i < activeLength → getD samples i 0 ≤ 1023) where
+module _ (samples : List ℕ) (small : (i : ℕ) → i < activeLength → getD samples i 0 ≤ mostWord) where
   module _ (k : ℕ) (l : k < rowWords) where
     abbrev first : ℕ
     first = getD samples (3 * k) 0
@@ -59,16 +60,16 @@ module _ (samples : List ℕ) (small : (i : ℕ) → i < activeLength → getD s
     abbrev third : ℕ
     third = getD samples (3 * k + 2) 0
 
-    first-small : first ≤ 1023
+    first-small : first ≤ mostWord
     first-small = small (3 * k) (omega arith)
 
-    second-small : second ≤ 1023
+    second-small : second ≤ mostWord
     second-small = small (3 * k + 1) (omega arith)
 
-    third-small : third ≤ 1023
+    third-small : third ≤ mostWord
     third-small = small (3 * k + 2) (omega arith)
 
-    word-small : samplesWord samples k ≤ 1073741823
+    word-small : samplesWord samples k ≤ mostRowWord
     word-small = tens-bounded first second third first-small second-small third-small
 
     -- a packed row's words are the samples' words
@@ -80,7 +81,7 @@ module _ (samples : List ℕ) (small : (i : ℕ) → i < activeLength → getD s
         (of-eights (samplesWord samples k) (omega (arith, word-small)))
 
     -- so no spare bit is set
-    pub packed-clear : rowWord (packedOf samples) k ≤ 1073741823
+    pub packed-clear : rowWord (packedOf samples) k ≤ mostRowWord
     packed-clear = rw word-packed word-small
 
     -- and the samples of a packed row are the samples of its words
@@ -101,7 +102,7 @@ module _ (samples : List ℕ) (small : (i : ℕ) → i < activeLength → getD s
       ))))
 
 -- ---- Packing undoes unpacking, where no spare bit is set.
-module _ (row : List ℕ) (bytes : (i : ℕ) → i < rowLength → getD row i 0 < 256) (clear : (k : ℕ) → k < rowWords → rowWord row k ≤ 1073741823) where
+module _ (row : List ℕ) (bytes : (i : ℕ) → i < rowLength → getD row i 0 < 256) (clear : (k : ℕ) → k < rowWords → rowWord row k ≤ mostRowWord) where
   module _ (k : ℕ) (l : k < rowWords) where
     -- the word of an unpacked row's samples is the row's word
     word-unpacked : samplesWord (unpackedOf row) k ≡ rowWord row k

@@ -4,10 +4,12 @@ use Prim.Native.Nat.{ℕ, _+_, _*_, _/_, _%_}
 use mathlib.Core.List.{List, [], _∷_}
 use mathlib.Core.Bool.{cond, not}
 use lib.ListN.{length, getD}
-use lib.Dec.{ltb, eqb}
+use lib.Dec.{eqb}
 use Rattle.refusal.specs.declared.Refusal.{Refusal}
-use Rattle.refusal.specs.Answer.{refuse, firstOf, firstFrom}
-use Rattle.line.specs.Samples.{tab, activeLength}
+use Rattle.refusal.specs.Numbers.{wrongLength}
+use Rattle.refusal.specs.Answer.{refuse, writtenBy, firstOf, firstFrom}
+use Rattle.words.specs.Words.{tab, faultOver, overRefusal}
+use Rattle.line.specs.Samples.{activeLength}
 
 -- the bytes of a row
 abbrev pub rowLength : ℕ
@@ -50,9 +52,12 @@ rowByte samples i = eightBits (samplesWord samples (i / 4)) (i % 4)
 unfoldable pub packedOf : List ℕ → List ℕ
 packedOf samples = tab rowLength (rowByte samples)
 
--- "v210's two spare bits of each word 0; set ones are refused": 5, a word over what it may hold, at the word's index
+-- "v210's two spare bits of each word 0; set ones are refused": 5 at the index of a word over 30 bits
+abbrev pub mostRowWord : ℕ
+mostRowWord = 1073741823
+
 abbrev pub spareAt : List ℕ → ℕ → ℕ
-spareAt row k = cond (ltb 1073741823 (rowWord row k)) 5 0
+spareAt row k = faultOver mostRowWord (rowWord row k)
 
 unfoldable pub spareRefusal : List ℕ → Refusal
 spareRefusal row = firstFrom (spareAt row) 0 rowWords
@@ -61,24 +66,20 @@ spareRefusal row = firstFrom (spareAt row) 0 rowWords
 unfoldable pub unpackRefusal : List ℕ → ℕ → Refusal
 unpackRefusal row room =
     firstOf
-    (refuse (not (eqb (length row) rowLength)) 3 0 ∷ refuse (not (eqb room activeLength)) 3 1 ∷ spareRefusal row ∷ [])
-
--- a sample of more than ten bits: 5 at its place
-abbrev pub overAt : List ℕ → ℕ → ℕ
-overAt samples place = cond (ltb 1023 (getD samples place 0)) 5 0
+    (refuse (not (eqb (length row) rowLength)) wrongLength 0 ∷ refuse (not (eqb room activeLength)) wrongLength 1 ∷ spareRefusal row ∷ [])
 
 -- packing: 3 at 0 for the samples and at 1 for the row, then 5
 unfoldable pub packRefusal : List ℕ → ℕ → Refusal
 packRefusal samples room =
     firstOf
-    (refuse (not (eqb (length samples) activeLength)) 3 0
-    ∷ refuse (not (eqb room rowLength)) 3 1
-    ∷ firstFrom (overAt samples) 0 activeLength
+    (refuse (not (eqb (length samples) activeLength)) wrongLength 0
+    ∷ refuse (not (eqb room rowLength)) wrongLength 1
+    ∷ overRefusal samples
     ∷ [])
 
 -- the buffers afterwards: no refusal writes one
 unfoldable pub samplesAfter : List ℕ → List ℕ → List ℕ
-samplesAfter row before = cond (eqb (unpackRefusal row (length before) .number) 0) (unpackedOf row) before
+samplesAfter row before = writtenBy (unpackRefusal row (length before)) (unpackedOf row) before
 
 unfoldable pub rowAfter : List ℕ → List ℕ → List ℕ
-rowAfter samples before = cond (eqb (packRefusal samples (length before) .number) 0) (packedOf samples) before
+rowAfter samples before = writtenBy (packRefusal samples (length before)) (packedOf samples) before

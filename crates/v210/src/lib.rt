@@ -2,10 +2,11 @@
 ghost use mathlib.Core.Path.{_≡_};
 ghost use Prim.Native.Nat.{ℕ, _+_, _*_, _/_, _%_, _<_, _≤_};
 ghost use lib.ListN.{length, getD};
-ghost use Rattle.refusal.specs.Answer.{firstFrom};
 ghost use Rattle.line.specs.Samples.{activeLength};
-ghost use Rattle.v210.specs.Row.{rowLength, rowWord, unpackedOf, packedOf, spareRefusal, unpackRefusal, overAt, packRefusal, samplesAfter, rowAfter};
+ghost use Rattle.v210.specs.Row.{rowLength, rowWord, unpackedOf, packedOf, spareRefusal, unpackRefusal, packRefusal, samplesAfter, rowAfter};
+ghost use Rattle.words.specs.Words.{mostWord};
 use line::ACTIVE_LENGTH;
+use refusal::Number;
 use refusal::Refusal;
 
 // The words that hold the samples of an active part.
@@ -15,16 +16,7 @@ const ROW_WORDS: usize = ACTIVE_LENGTH / 3;
 pub const ROW_LENGTH: usize = 4 * ROW_WORDS;
 
 // The highest word whose two spare bits are 0.
-const MOST_WORD: u32 = 1073741823;
-
-fn accepted() -> Refusal
-    ensures { λ r. ⌜ r ≡ record { number = 0; place = 0 } ⌝ }
-{
-    Refusal {
-        number: 0,
-        place: 0,
-    }
-}
+const MOST_ROW_WORD: u32 = 1073741823;
 
 // Four bytes as a word, low byte first.
 fn word_of_bytes(first: u8, second: u8, third: u8, fourth: u8) -> u32
@@ -48,14 +40,14 @@ fn spare_refusal(row: &[u8]) -> Refusal
     ensures { λ r. ⌜ r ≡ spareRefusal (now (row .entry)) ⌝ }
 {
     for k in 0..ROW_WORDS {
-        if word_at(row, k) > MOST_WORD {
+        if word_at(row, k) > MOST_ROW_WORD {
             return Refusal {
-                number: 5,
+                number: Number::OVER,
                 place: k,
             };
         }
     }
-    accepted()
+    Refusal::NONE
 }
 
 fn unpack_refusal(row: &[u8], room: usize) -> Refusal
@@ -63,13 +55,13 @@ fn unpack_refusal(row: &[u8], room: usize) -> Refusal
 {
     if row.len() != ROW_LENGTH {
         return Refusal {
-            number: 3,
+            number: Number::WRONG_LENGTH,
             place: 0,
         };
     }
     if room != ACTIVE_LENGTH {
         return Refusal {
-            number: 3,
+            number: Number::WRONG_LENGTH,
             place: 1,
         };
     }
@@ -110,40 +102,27 @@ pub fn unpack(row: &[u8], samples: &mut [u16]) -> Refusal
     refusal
 }
 
-// 5 at the first sample over 1023.
-fn over_refusal(samples: &[u16]) -> Refusal
-    requires { ⌜ length (now samples) ≡ activeLength ⌝ }
-    ensures { λ r. ⌜ r ≡ firstFrom (overAt (now (samples .entry))) 0 activeLength ⌝ }
-{
-    for place in 0..ACTIVE_LENGTH {
-        if samples[place] > 1023 {
-            return Refusal { number: 5, place };
-        }
-    }
-    accepted()
-}
-
 fn pack_refusal(samples: &[u16], room: usize) -> Refusal
     ensures { λ r. ⌜ r ≡ packRefusal (now (samples .entry)) room ⌝ }
 {
     if samples.len() != ACTIVE_LENGTH {
         return Refusal {
-            number: 3,
+            number: Number::WRONG_LENGTH,
             place: 0,
         };
     }
     if room != ROW_LENGTH {
         return Refusal {
-            number: 3,
+            number: Number::WRONG_LENGTH,
             place: 1,
         };
     }
-    over_refusal(samples)
+    words::first_over(samples)
 }
 
 // Three samples of ten bits as a word.
 fn word_of(first: u16, second: u16, third: u16) -> u32
-    requires { ⌜ (first ≤ 1023) × (second ≤ 1023) × (third ≤ 1023) ⌝ }
+    requires { ⌜ (first ≤ mostWord) × (second ≤ mostWord) × (third ≤ mostWord) ⌝ }
     ensures { λ r. ⌜ r ≡ first + 1024 * second + 1048576 * third ⌝ }
 {
     first as u32 + 1024 * (second as u32) + 1048576 * (third as u32)
@@ -158,7 +137,7 @@ fn eight_bits(number: u32) -> u8
 
 // Puts samples of ten bits together into a row.
 fn put_together(samples: &[u16], row: &mut [u8])
-    requires { ⌜ (length (now samples) ≡ activeLength) × (length (now row) ≡ rowLength) × ((i : ℕ) → i < activeLength → getD (now samples) i 0 ≤ 1023) ⌝ }
+    requires { ⌜ (length (now samples) ≡ activeLength) × (length (now row) ≡ rowLength) × ((i : ℕ) → i < activeLength → getD (now samples) i 0 ≤ mostWord) ⌝ }
     ensures { λ _. ⌜ now (row .exit) ≡ packedOf (now (samples .entry)) ⌝ }
 {
     for k in 0..ROW_WORDS {

@@ -1,103 +1,110 @@
--- The writer's answer, as each of its tests leaves it. Assumes nothing.
+-- The writer's answers, as each of their tests leaves them, and what is known where nothing is refused. Assumes nothing.
 use Prim.Native.Nat.{ℕ}
 use mathlib.Core.Path.{_≡_, refl, sym, _∙_}
-use mathlib.Core.Bool.{Bool, true, false, not}
+use mathlib.Core.Bool.{true, false, true≢false, not, _||_}
+use mathlib.Core.List.{List}
+use mathlib.Core.Logic.{inr}
 use native.Mathlib.Omega.{arith}
-use lib.Dec.{eqb}
+use lib.Dec.{ltb, eqb}
 use lib.ListN.{length}
-use borrow.Author.Tests.{eq-eqb, ne-eqb, eqb-true, eqb-false}
+use borrow.Author.Tests.{eq-eqb, ne-eqb}
 use Rattle.refusal.specs.declared.Refusal.{Refusal}
+use Rattle.refusal.specs.Numbers.{wrongLength, outside}
 use Rattle.refusal.specs.Answer.{none, refuse, orElse}
+use Rattle.refusal.specs.Table.{Keeps}
 use Rattle.refusal.proofs.Cases.{by-test}
-use Rattle.refusal.proofs.Firsts.{orElse-accepted, orElse-refused, orElse-none}
-use Rattle.system.specs.Figures.{lineLength, isSystem, systemOf}
-use Rattle.system.specs.Walk.{isLine, systemRefusal, lineRefusal, freshRefusal, freshOf}
-use Rattle.system.proofs.Theorems.{fresh-number}
-use Rattle.line.specs.Due.{dueOf}
+use Rattle.refusal.proofs.Firsts.{orElse-accepted, orElse-refused, orElse-none, length-due}
+use Rattle.refusal.proofs.Tables.{alone, numbers-when, keeps-lowest}
+use Rattle.system.specs.declared.due.Due.{Due}
+use Rattle.system.specs.Figures.{lineLength}
+use Rattle.line.specs.Fault.{leastSample, mostSample}
 use Rattle.line.specs.Lengths.{lengthRefusal, bufferRefusal}
-use Rattle.line.specs.Samples.{Samples, yLength, cLength}
-use Rattle.line.specs.Fit.{Measured}
-use Rattle.writer.specs.Write.{sampleRefusal, writeRefusal}
-use Rattle.writer.proofs.Orders.{orElse-grouped}
-use Rattle.writer.proofs.Places.{inside-accepted, accepted-inside}
+use Rattle.line.specs.Samples.{Samples, activeLength, sampleAt, partSamples}
+use Rattle.line.proofs.Theorems.{reserved-test}
+use Rattle.writer.specs.Refusals.{sampleRefusals}
+use Rattle.writer.specs.Write.{outsideAt, sampleRefusal, dueRefusal, partRefusal}
+use Rattle.writer.proofs.Places.{samples-blank, samples-picture}
 
--- a fresh walk's answer is its refusal
-fresh-told : (system line : ℕ) → record { number = freshOf system line .number; place = 0 } ≡ freshRefusal system line
-unfolding freshOf freshRefusal orElse
-fresh-told system line =
-    by-test (isSystem system)
-    (λ a. by-test (isLine system line) (λ b. simp (a, b)) (λ b. simp (a, b)))
-    (λ a. simp a)
+-- ---- 12 at the lowest place, where V is 0
+pub samples-exact : (d : Due) (p : Samples) → Keeps (sampleRefusals d p) (sampleRefusal d p)
+samples-exact d p =
+    by-test (d .v)
+    (λ v. rw (samples-blank p d v) (inr (λ r q. true≢false (sym v ∙ q .asked .0 .0), refl)))
+    (λ v. rw (samples-picture p d v)
+    (keeps-lowest _ (outsideAt p) activeLength
+    (λ place l. numbers-when (ltb (sampleAt p place) leastSample || ltb mostSample (sampleAt p place)) _ outside place
+    (λ t. (v, reserved-test (sampleAt p place) .0 t)) (λ q. reserved-test (sampleAt p place) .1 (q .1)) (λ z. omega arith))))
 
--- what refuses the buffers' lengths
-abbrev pub buffersRefusal : Samples → Refusal
-buffersRefusal p = bufferRefusal (length (p .y)) (length (p .cb)) (length (p .cr))
+-- ---- the line's length, then other lengths, then the samples: so for three buffers and for an active part
+module _ (d : Due) (p : Samples) (others : Refusal) (room : ℕ) where
+  abbrev answer : Refusal
+  answer = orElse (lengthRefusal (d .system) room) (orElse others (orElse (sampleRefusal d p) none))
 
--- what refuses where a walk does not: the words' length, the buffers' lengths, the samples
-abbrev pub rest : ℕ → ℕ → Samples → ℕ → Refusal
-rest system line p room =
-    orElse (lengthRefusal (systemOf system) room) (orElse (buffersRefusal p) (orElse (sampleRefusal (dueOf (systemOf system) line) p) none))
+  wrong-room : (room ≡ lineLength (d .system) → ⊥) → record { number = wrongLength; place = 0 } ≡ answer
+  unfolding orElse
+  wrong-room n = simp (ne-eqb _ _ n)
 
--- where an answer with the number 0 is that of acceptance, nothing comes after it
-or-none : (r : Refusal) → (r .number ≡ 0 → r ≡ none) → orElse r none ≡ r
-or-none r h =
-    by-test (eqb (r .number) 0)
-    (λ t. orElse-accepted r none (eqb-true _ _ t) ∙ sym (h (eqb-true _ _ t)))
-    (λ f. orElse-refused r none (eqb-false _ _ f))
-
-module _ (system line : ℕ) (p : Samples) (room : ℕ) where
-  pub grouped : orElse (freshRefusal system line) (rest system line p room) ≡ writeRefusal system line p room
-  unfolding writeRefusal freshRefusal
-  grouped = orElse-grouped (systemRefusal system) (lineRefusal system line) (rest system line p room)
-
-  pub no-walk : (freshOf system line .number ≡ 0 → ⊥) → record { number = freshOf system line .number; place = 0 } ≡ writeRefusal system line p room
-  no-walk n =
-      fresh-told system line
-      ∙ sym (orElse-refused (freshRefusal system line) (rest system line p room) (λ z. n (fresh-number system line ∙ z)))
-      ∙ grouped
-
-  module _ (walk : freshOf system line .number ≡ 0) where
-    after-walk : rest system line p room ≡ writeRefusal system line p room
-    after-walk = sym (orElse-accepted (freshRefusal system line) (rest system line p room) (sym (fresh-number system line) ∙ walk)) ∙ grouped
-
-    pub wrong-length : (room ≡ lineLength (systemOf system) → ⊥) → record { number = 3; place = 0 } ≡ writeRefusal system line p room
+  module _ (sized : room ≡ lineLength (d .system)) where
+    past-room : answer ≡ orElse others (orElse (sampleRefusal d p) none)
     unfolding orElse
-    wrong-length n = simp (ne-eqb _ _ n) at after-walk
+    past-room = simp (eq-eqb _ _ sized)
 
-    module _ (sized : room ≡ lineLength (systemOf system)) where
-      after-length : orElse (buffersRefusal p) (orElse (sampleRefusal (dueOf (systemOf system) line) p) none) ≡ writeRefusal system line p room
-      unfolding orElse
-      after-length = simp (eq-eqb _ _ sized) at after-walk
+    wrong-others : (others .number ≡ 0 → ⊥) → others ≡ answer
+    wrong-others n = sym (past-room ∙ orElse-refused others _ n)
 
-      pub wrong-buffers : (buffersRefusal p .number ≡ 0 → ⊥) → buffersRefusal p ≡ writeRefusal system line p room
-      wrong-buffers n = sym (orElse-refused (buffersRefusal p) _ n) ∙ after-length
+    only-samples : others .number ≡ 0 → sampleRefusal d p ≡ answer
+    only-samples e = sym (past-room ∙ orElse-accepted others _ e ∙ alone _ (sampleRefusal d p) (samples-exact d p))
 
-      pub only-samples : buffersRefusal p .number ≡ 0 → sampleRefusal (dueOf (systemOf system) line) p ≡ writeRefusal system line p room
-      only-samples e =
-          let d = dueOf (systemOf system) line in
-          sym (or-none (sampleRefusal d p) (λ z. inside-accepted p d (accepted-inside p d z)))
-          ∙ sym (orElse-accepted (buffersRefusal p) _ e) ∙ after-length
+  pub record Passed : Type 0 where
+    pub words : room ≡ lineLength (d .system)
+    pub lengths : others .number ≡ 0
+    pub samples : sampleRefusal d p .number ≡ 0
 
--- ---- what is known where a test refuses nothing
-pub passed : (t : Bool) (n place : ℕ) → (n ≡ 0 → ⊥) → refuse (not t) n place .number ≡ 0 → t ≡ true
-passed true n place positive e = refl
-passed false n place positive e = absurd (positive e)
+  passed : answer .number ≡ 0 → Passed
+  passed e =
+      let first = orElse-none (lengthRefusal (d .system) room) _ e in
+      let second = orElse-none others _ (first .1) in
+      let third = orElse-none (sampleRefusal d p) none (second .1) in
+      record { words = length-due room (lineLength (d .system)) 0 (first .0); lengths = second .0; samples = third .0 }
 
-pub buffers-measured : (p : Samples) → buffersRefusal p .number ≡ 0 → Measured p
-unfolding bufferRefusal
-buffers-measured p e =
-    let y = eqb (length (p .y)) yLength in
-    let cb = eqb (length (p .cb)) cLength in
-    let cr = eqb (length (p .cr)) cLength in
-    let first = orElse-none (refuse (not y) 3 1) _ e in
-    let second = orElse-none (refuse (not cb) 3 2) _ (first .1) in
-    let third = orElse-none (refuse (not cr) 3 3) none (second .1) in
-    record {
-      y = eqb-true _ _ (passed y 3 1 (λ z. omega arith) (first .0));
-      cb = eqb-true _ _ (passed cb 3 2 (λ z. omega arith) (second .0));
-      cr = eqb-true _ _ (passed cr 3 3 (λ z. omega arith) (third .0));
-    }
+-- ---- three buffers
+module _ (d : Due) (p : Samples) (room : ℕ) where
+  abbrev pub buffersRefusal : Refusal
+  buffersRefusal = bufferRefusal (length (p .y)) (length (p .cb)) (length (p .cr))
 
-pub measured-buffers : (p : Samples) → Measured p → buffersRefusal p .number ≡ 0
-unfolding bufferRefusal orElse
-measured-buffers p m = simp (eq-eqb _ _ (m .y), eq-eqb _ _ (m .cb), eq-eqb _ _ (m .cr))
+  pub due-room : (room ≡ lineLength (d .system) → ⊥) → record { number = wrongLength; place = 0 } ≡ dueRefusal d p room
+  unfolding dueRefusal
+  due-room n = wrong-room d p buffersRefusal room n
+
+  pub due-buffers : room ≡ lineLength (d .system) → (buffersRefusal .number ≡ 0 → ⊥) → buffersRefusal ≡ dueRefusal d p room
+  unfolding dueRefusal
+  due-buffers sized n = wrong-others d p buffersRefusal room sized n
+
+  pub due-samples : room ≡ lineLength (d .system) → buffersRefusal .number ≡ 0 → sampleRefusal d p ≡ dueRefusal d p room
+  unfolding dueRefusal
+  due-samples sized e = only-samples d p buffersRefusal room sized e
+
+  pub due-passed : dueRefusal d p room .number ≡ 0 → Passed d p buffersRefusal room
+  unfolding dueRefusal
+  due-passed e = passed d p buffersRefusal room e
+
+-- ---- an active part
+module _ (d : Due) (part : List ℕ) (room : ℕ) where
+  pub part-room : (room ≡ lineLength (d .system) → ⊥) → record { number = wrongLength; place = 0 } ≡ partRefusal d part room
+  unfolding partRefusal
+  part-room n = wrong-room d (partSamples part) (refuse (not (eqb (length part) activeLength)) wrongLength 1) room n
+
+  pub part-length : room ≡ lineLength (d .system) → (length part ≡ activeLength → ⊥) → record { number = wrongLength; place = 1 } ≡ partRefusal d part room
+  unfolding partRefusal orElse
+  part-length sized n = simp (eq-eqb _ _ sized, ne-eqb _ _ n)
+
+  pub part-samples : room ≡ lineLength (d .system) → length part ≡ activeLength → sampleRefusal d (partSamples part) ≡ partRefusal d part room
+  unfolding partRefusal
+  part-samples sized e =
+      only-samples d (partSamples part) (refuse (not (eqb (length part) activeLength)) wrongLength 1) room sized (simp (eq-eqb _ _ e))
+
+  pub part-passed : partRefusal d part room .number ≡ 0 → (room ≡ lineLength (d .system)) × (length part ≡ activeLength) × (sampleRefusal d (partSamples part) .number ≡ 0)
+  unfolding partRefusal
+  part-passed e =
+      let all = passed d (partSamples part) (refuse (not (eqb (length part) activeLength)) wrongLength 1) room e in
+      (all .words, length-due (length part) activeLength 1 (all .lengths), all .samples)

@@ -1,4 +1,3 @@
-pub mod Orders
 pub mod Places
 pub mod Puts
 pub mod Whole

@@ -1,64 +1,46 @@
 -- The sample at a place of the active part, and what refuses a line's samples. Assumes nothing.
 use Prim.Native.Nat.{ℕ, _+_, _*_, _/_, _%_, _<_, _≤_}
-use mathlib.Core.Path.{_≡_, refl, _∙_}
-use mathlib.Core.Bool.{Bool, true, false, true≢false, _||_}
+use mathlib.Core.Path.{_≡_, refl, sym, ap, _∙_}
+use mathlib.Core.Bool.{Bool, true, false, cond, _||_}
 use native.Mathlib.Omega.{arith}
 use lib.Dec.{ltb, eqb}
 use lib.ListN.{getD}
-use borrow.Author.Tests.{eq-eqb, ne-eqb, le-ltb, ltb-false}
+use borrow.Author.Tests.{le-ltb}
+use Rattle.refusal.specs.Numbers.{outside}
 use Rattle.refusal.specs.Answer.{none, firstFrom}
 use Rattle.refusal.proofs.Cases.{by-cond, by-test}
 use Rattle.refusal.proofs.Firsts.{first-none, first-none-back}
-use Rattle.line.specs.declared.Due.{Due}
+use Rattle.system.specs.declared.due.Due.{Due}
 use Rattle.line.specs.Fault.{leastSample, mostSample}
 use Rattle.line.specs.Samples.{Samples, activeLength, yLength, cLength, sampleAt}
 use Rattle.line.specs.Fit.{Inside}
+use Rattle.line.proofs.Faults.{not-reserved}
+use Rattle.line.proofs.Places.{sample-y, sample-cb, sample-cr}
 use Rattle.writer.specs.Write.{outsideAt, sampleRefusal}
 
 -- ---- "CB, Y, CR, Y repeated": what stands in the buffers at k
 module _ (p : Samples) (k place : ℕ) where
   pub cb-at : place ≡ 4 * k → getD (p .cb) k 0 ≡ sampleAt p place
-  unfolding sampleAt
-  cb-at e =
-      let odd : (place % 2 ≡ 1 → ⊥) = λ q. omega arith in
-      let first : place % 4 ≡ 0 = omega arith in
-      let group : place / 4 ≡ k = omega arith in
-      simp (ne-eqb _ _ odd, eq-eqb _ _ first, group)
+  cb-at e = sym (sample-cb p k) ∙ ap (sampleAt p) (sym e)
 
   pub cr-at : place ≡ 4 * k + 2 → getD (p .cr) k 0 ≡ sampleAt p place
-  unfolding sampleAt
-  cr-at e =
-      let odd : (place % 2 ≡ 1 → ⊥) = λ q. omega arith in
-      let first : (place % 4 ≡ 0 → ⊥) = λ q. omega arith in
-      let group : place / 4 ≡ k = omega arith in
-      simp (ne-eqb _ _ odd, ne-eqb _ _ first, group)
+  cr-at e = sym (sample-cr p k) ∙ ap (sampleAt p) (sym e)
 
   pub y-at : place ≡ 2 * k + 1 → getD (p .y) k 0 ≡ sampleAt p place
-  unfolding sampleAt
-  y-at e =
-      let odd : place % 2 ≡ 1 = omega arith in
-      let half : place / 2 ≡ k = omega arith in
-      simp (eq-eqb _ _ odd, half)
+  y-at e = sym (sample-y p k) ∙ ap (sampleAt p) (sym e)
 
 -- ---- what refuses the samples
-or-neither : (a b : Bool) → (a || b) ≡ false → (a ≡ false) × (b ≡ false)
-or-neither true b e = absurd (true≢false e)
-or-neither false b e = (refl, e)
-
 module _ (p : Samples) where
   -- a sample is outside, or from 4 to 1019
   not-outside : (place : ℕ) → (leastSample ≤ sampleAt p place) × (sampleAt p place ≤ mostSample) → outsideAt p place ≡ 0
   not-outside place (low, high) = simp (le-ltb _ _ low, le-ltb _ _ high)
 
   not-outside-told : (place : ℕ) → outsideAt p place ≡ 0 → (leastSample ≤ sampleAt p place) × (sampleAt p place ≤ mostSample)
-  not-outside-told place e =
-      let low = ltb (sampleAt p place) leastSample in
-      let high = ltb mostSample (sampleAt p place) in
-      by-test (low || high) (λ t. absurd (never (rw t at e)))
-      (λ f. let neither = or-neither low high f in (ltb-false _ _ (neither .0), ltb-false _ _ (neither .1)))
+  not-outside-told place e = not-reserved (sampleAt p place) (not-counted (ltb (sampleAt p place) leastSample || ltb mostSample (sampleAt p place)) e)
     where
-      never : _≡_ {A = ℕ} 12 0 → ⊥
-      never q = omega arith
+      not-counted : (t : Bool) → cond t outside 0 ≡ 0 → t ≡ false
+      not-counted true q = absurd (omega (arith, q))
+      not-counted false q = refl
 
   -- what holds of each buffer's words holds of the sample at each place
   pub each-place : (P : ℕ → Type 0) → ((k : ℕ) → k < yLength → P (getD (p .y) k 0))

@@ -5,17 +5,20 @@ use mathlib.Core.Bool.{true, false}
 use mathlib.Core.List.{List}
 use native.Mathlib.Omega.{arith}
 use lib.Dec.{ltb, eqb}
-use lib.ListN.{length, getD}
+use lib.ListN.{length}
 use Rattle.refusal.proofs.Cases.{by-cond}
 use Rattle.system.specs.Figures.{lineLength, savOffset, activeOffset}
-use Rattle.line.specs.declared.Due.{Due}
+use Rattle.system.specs.declared.due.Due.{Due}
+use Rattle.system.proofs.Laws.{line-is-parts}
 use Rattle.line.specs.declared.What.{What}
 use Rattle.line.specs.declared.What.the-variants.{Ones, Zeros, Fourth, Fill}
-use Rattle.line.specs.Due.{flagsOf, codeAt, fillAt, dueAt}
-use Rattle.line.specs.Samples.{Samples, sampleAt, wordWhere, wordAt, lineOf}
+use Rattle.system.specs.Due.{flagsOf}
+use Rattle.line.specs.Offsets.{codeAt, fillAt, dueAt}
+use Rattle.line.specs.Samples.{Samples, sampleAt, wordWhere, wordAt, lineOf, partSamples}
+use Rattle.line.proofs.Places.{part-in-place}
 use Rattle.line.proofs.Dues.{due-eav, due-space, due-sav, due-blank, due-sample}
-use Rattle.line.proofs.Tabs.{is-tab}
-use Rattle.writer.specs.Passes.{Put, codeWord, fillWord, activeWord}
+use Rattle.words.proofs.Tabs.{is-tab}
+use Rattle.writer.specs.Passes.{Put, Blanked, codeWord, fillWord, activeWord, partWord}
 use Rattle.writer.proofs.Puts.{then-put}
 
 -- the words of a code and of fill do not depend on a sample
@@ -26,8 +29,8 @@ code-any fvh k s =
     same : What → Type 0
     same x = wordWhere x 0 ≡ wordWhere x s
 
-fill-any : (d : Due) (i s : ℕ) → wordWhere (fillAt d i) 0 ≡ wordWhere (fillAt d i) s
-fill-any d i s = by-cond (λ x. wordWhere x 0 ≡ wordWhere x s) (eqb (i % 2) 0) (Fill (d .even)) (Fill (d .odd)) (λ e. refl) (λ e. refl)
+fill-any : (d : Due) (i s : ℕ) → wordWhere (fillAt (d .fill) i) 0 ≡ wordWhere (fillAt (d .fill) i) s
+fill-any d i s = by-cond (λ x. wordWhere x 0 ≡ wordWhere x s) (eqb (i % 2) 0) (Fill (d .fill .even)) (Fill (d .fill .odd)) (λ e. refl) (λ e. refl)
 
 module _ (d : Due) (p : Samples) where
   -- the line's word at an offset, by what is due there
@@ -42,13 +45,8 @@ module _ (d : Due) (p : Samples) where
   sav-words : (i : ℕ) → savOffset (d .system) ≤ i → i < activeOffset (d .system) → codeWord (flagsOf d false) (savOffset (d .system)) i ≡ wordAt d p i
   sav-words i g l = code-any _ (i - savOffset (d .system)) _ ∙ due-word i _ (due-sav d i g l)
 
-  fill-words : (i : ℕ) → dueAt d i ≡ fillAt d i → fillWord d i ≡ wordAt d p i
+  fill-words : (i : ℕ) → dueAt d i ≡ fillAt (d .fill) i → fillWord d i ≡ wordAt d p i
   fill-words i e = fill-any d i _ ∙ due-word i _ e
-
--- EAV, the blanking between and SAV stand: the line's own words up to the active part
-pub record Blanked (d : Due) (p : Samples) (words : List ℕ) : Type 0 where
-  pub size : length words ≡ lineLength (d .system)
-  pub there : (i : ℕ) → i < activeOffset (d .system) → getD words i 0 ≡ wordAt d p i
 
 pub blanked : (d : Due) (p : Samples) (l0 l1 l2 l3 : List ℕ) (eavFlags savFlags savAt : ℕ) → length l0 ≡ lineLength (d .system)
     → eavFlags ≡ flagsOf d true → savFlags ≡ flagsOf d false → savAt ≡ savOffset (d .system)
@@ -76,3 +74,14 @@ module _ (d : Due) (p : Samples) (l3 l4 : List ℕ) (done : Blanked d p l3) (at 
 
   pub picture-whole : d .v ≡ false → Put (activeWord p at) at to l3 l4 → l4 ≡ lineOf d p
   picture-whole v active = whole (activeWord p at) active (λ i g. rw a (due-word d p i _ (due-sample d i g v)))
+
+-- an active part that is copied is its own samples
+pub part-whole : (d : Due) (part l3 l4 : List ℕ) → Blanked d (partSamples part) l3 → (at to : ℕ) → at ≡ activeOffset (d .system) → to ≡ lineLength (d .system)
+    → d .v ≡ false → Put (partWord part at) at to l3 l4 → l4 ≡ lineOf d (partSamples part)
+part-whole d part l3 l4 done at to a e v active =
+    picture-whole d (partSamples part) l3 l4 done at to a e v
+    (record {
+      size = active .size;
+      kept = active .kept;
+      there = λ i l g. active .there i l g ∙ sym (part-in-place part (i - at) (omega (arith, line-is-parts (d .system))));
+    })

@@ -4,7 +4,7 @@ use mathlib.Core.Path.{_≡_}
 use mathlib.Core.Bool.{true}
 use Rattle.system.specs.Figures.{lineLength, isSystem, systemOf}
 use Rattle.system.specs.Walk.{isLine}
-use Rattle.line.specs.Due.{dueOf}
+use Rattle.system.specs.Due.{dueOf}
 use Rattle.line.specs.Samples.{Samples}
 use Rattle.line.specs.Fit.{Fit}
 

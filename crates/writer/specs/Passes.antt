@@ -4,9 +4,10 @@ use Prim.Native.Nat.{ℕ, _-_, _<_, _≤_}
 use mathlib.Core.Path.{_≡_}
 use mathlib.Core.List.{List}
 use lib.ListN.{length, getD}
-use Rattle.line.specs.declared.Due.{Due}
-use Rattle.line.specs.Due.{codeAt, fillAt}
-use Rattle.line.specs.Samples.{Samples, sampleAt, wordWhere}
+use Rattle.system.specs.declared.due.Due.{Due}
+use Rattle.system.specs.Figures.{lineLength, activeOffset}
+use Rattle.line.specs.Offsets.{codeAt, fillAt}
+use Rattle.line.specs.Samples.{Samples, sampleAt, wordWhere, wordAt}
 
 -- what stores from one offset up to another leave: the words below as they were, and these words there
 pub record Put (word : ℕ → ℕ) (from to : ℕ) (before after : List ℕ) : Type 0 where
@@ -20,8 +21,17 @@ codeWord fvh at i = wordWhere (codeAt fvh (i - at)) 0
 
 -- the words of fill
 abbrev pub fillWord : Due → ℕ → ℕ
-fillWord d i = wordWhere (fillAt d i) 0
+fillWord d i = wordWhere (fillAt (d .fill) i) 0
 
 -- the words of an active part that starts at an offset
 abbrev pub activeWord : Samples → ℕ → ℕ → ℕ
 activeWord p at i = sampleAt p (i - at)
+
+-- the same words as a part holds them
+abbrev pub partWord : List ℕ → ℕ → ℕ → ℕ
+partWord part at i = getD part (i - at) 0
+
+-- EAV, the blanking between and SAV stand: the line's own words up to the active part
+pub record Blanked (d : Due) (p : Samples) (words : List ℕ) : Type 0 where
+  pub size : length words ≡ lineLength (d .system)
+  pub there : (i : ℕ) → i < activeOffset (d .system) → getD words i 0 ≡ wordAt d p i

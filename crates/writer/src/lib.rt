@@ -1,27 +1,28 @@
-// Writing a line of samples.
+// Writing a line by what is due in it: of samples, or of a whole active part.
+mod part;
+
+pub use part::write_part;
 ghost use mathlib.Core.Path.{_≡_};
-ghost use mathlib.Core.Bool.{true, _||_};
+ghost use mathlib.Core.Bool.{true};
 ghost use Prim.Native.Nat.{_+_, _%_, _≤_, _<_};
 ghost use lib.ListN.{length};
-ghost use lib.Dec.{ltb};
-ghost use Rattle.refusal.specs.Answer.{firstFrom};
+ghost use Rattle.refusal.specs.Answer.{firstFrom, writtenBy};
 ghost use Rattle.system.specs.Figures.{lineLength};
-ghost use Rattle.line.specs.Fault.{leastSample, mostSample};
-ghost use Rattle.line.specs.Samples.{activeLength, sampleAt, lineOf};
+ghost use Rattle.line.specs.Samples.{Samples, activeLength, sampleAt, lineOf};
 ghost use Rattle.line.specs.Fit.{Measured, Inside};
-ghost use Rattle.writer.specs.Passes.{Put, codeWord, fillWord, activeWord};
-ghost use Rattle.writer.specs.Write.{outsideAt, sampleRefusal, writeRefusal, lineAfter};
-use line::Due;
+ghost use Rattle.writer.specs.Passes.{Put, Blanked, codeWord, fillWord, activeWord};
+ghost use Rattle.writer.specs.Write.{outsideAt, sampleRefusal, dueRefusal, writeRefusal, lineAfter};
+use line::LEAST_SAMPLE;
+use line::MOST_SAMPLE;
 use line::buffer_refusal;
+use line::reserved;
+use refusal::Number;
 use refusal::Refusal;
-use system::fresh_walk;
+use system::Due;
+use system::named_refusal;
 use system::system_of;
 use timing::fourth;
-
-// A sample is 4 to 1019.
-const LEAST_SAMPLE: u16 = 4;
-
-const MOST_SAMPLE: u16 = 1019;
+use words::MOST_WORD;
 
 // Writes the line with this number: 1, 2, 3, then 12 at the lowest place of the active part, on V = 0 lines only.
 // On V = 1 lines the samples are measured but not looked at, and fill is written. A refusal leaves the line as it was.
@@ -36,29 +37,34 @@ pub fn write(
     ensures answer { λ r. ⌜ r ≡ writeRefusal system line (record { y = now (y .entry); cb = now (cb .entry); cr = now (cr .entry) }) (length (now (words .entry))) ⌝ }
     ensures words { λ r. ⌜ now (words .exit) ≡ lineAfter system line (record { y = now (y .entry); cb = now (cb .entry); cr = now (cr .entry) }) (now (words .entry)) ⌝ }
 {
-    let refusal = write_refusal(system, line, y, cb, cr, words.len());
+    let named = named_refusal(system, line);
+    if named.number != 0 {
+        return named;
+    }
+    write_line(Due::of(system_of(system), line), y, cb, cr, words)
+}
+
+// Writes the line in which this is due, by whatever number it has: 3, then 12.
+pub fn write_line(due: Due, y: &[u16], cb: &[u16], cr: &[u16], words: &mut [u16]) -> Refusal
+    ensures answer { λ r. ⌜ r ≡ dueRefusal due (record { y = now (y .entry); cb = now (cb .entry); cr = now (cr .entry) }) (length (now (words .entry))) ⌝ }
+    ensures words { λ r. ⌜ now (words .exit) ≡ writtenBy r (lineOf due (record { y = now (y .entry); cb = now (cb .entry); cr = now (cr .entry) })) (now (words .entry)) ⌝ }
+{
+    let refusal = due_refusal(due, y, cb, cr, words.len());
     if refusal.number != 0 {
         return refusal;
     }
-    put_line(Due::of(system_of(system), line), y, cb, cr, words);
+    put_line(due, y, cb, cr, words);
     refusal
 }
 
-// All that refuses, before the first store: 1, 2, 3, then 12.
-fn write_refusal(system: u32, line: u32, y: &[u16], cb: &[u16], cr: &[u16], room: usize) -> Refusal
-    ensures { λ r. ⌜ r ≡ writeRefusal system line (record { y = now (y .entry); cb = now (cb .entry); cr = now (cr .entry) }) room ⌝ }
+// All that refuses, before the first store: 3, then 12.
+fn due_refusal(due: Due, y: &[u16], cb: &[u16], cr: &[u16], room: usize) -> Refusal
+    ensures { λ r. ⌜ r ≡ dueRefusal due (record { y = now (y .entry); cb = now (cb .entry); cr = now (cr .entry) }) room ⌝ }
 {
-    let walk = fresh_walk(system, line);
-    if walk.number != 0 {
+    let system = due.system;
+    if room != system.line_length() {
         return Refusal {
-            number: walk.number,
-            place: 0,
-        };
-    }
-    let named = system_of(system);
-    if room != named.line_length() {
-        return Refusal {
-            number: 3,
+            number: Number::WRONG_LENGTH,
             place: 0,
         };
     }
@@ -66,7 +72,7 @@ fn write_refusal(system: u32, line: u32, y: &[u16], cb: &[u16], cr: &[u16], room
     if lengths.number != 0 {
         return lengths;
     }
-    sample_refusal(Due::of(named, line), y, cb, cr)
+    sample_refusal(due, y, cb, cr)
 }
 
 // What refuses the samples of a line: 12, on V = 0 lines only.
@@ -75,10 +81,7 @@ fn sample_refusal(due: Due, y: &[u16], cb: &[u16], cr: &[u16]) -> Refusal
     ensures { λ r. ⌜ r ≡ sampleRefusal due (record { y = now (y .entry); cb = now (cb .entry); cr = now (cr .entry) }) ⌝ }
 {
     if due.v || all_samples(y, cb, cr) {
-        return Refusal {
-            number: 0,
-            place: 0,
-        };
+        return Refusal::NONE;
     }
     lowest_outside(y, cb, cr)
 }
@@ -129,14 +132,14 @@ fn lowest_outside(y: &[u16], cb: &[u16], cr: &[u16]) -> Refusal
     ensures { λ r. ⌜ r ≡ firstFrom (outsideAt (record { y = now (y .entry); cb = now (cb .entry); cr = now (cr .entry) })) 0 activeLength ⌝ }
 {
     for place in 0..2 * y.len() {
-        if outside(sample_at(y, cb, cr, place)) {
-            return Refusal { number: 12, place };
+        if reserved(sample_at(y, cb, cr, place)) {
+            return Refusal {
+                number: Number::OUTSIDE,
+                place,
+            };
         }
     }
-    Refusal {
-        number: 0,
-        place: 0,
-    }
+    Refusal::NONE
 }
 
 // The sample at a place of the active part: CB, Y, CR, Y repeated.
@@ -153,32 +156,31 @@ fn sample_at(y: &[u16], cb: &[u16], cr: &[u16], place: usize) -> u16
     cr[place / 4]
 }
 
-// Whether a sample to be written is outside 4 to 1019.
-fn outside(sample: u16) -> bool
-    ensures { λ r. ⌜ r ≡ (ltb sample leastSample || ltb mostSample sample) ⌝ }
-{
-    if sample < LEAST_SAMPLE {
-        return true;
-    }
-    MOST_SAMPLE < sample
-}
-
 // Writes the line part by part: EAV, fill, SAV, and the active part, which is fill where V is 1.
 fn put_line(due: Due, y: &[u16], cb: &[u16], cr: &[u16], words: &mut [u16])
     requires { ⌜ Measured (record { y = now y; cb = now cb; cr = now cr }) × (length (now words) ≡ lineLength (due .system)) ⌝ }
     ensures { λ _. ⌜ now (words .exit) ≡ lineOf due (record { y = now (y .entry); cb = now (cb .entry); cr = now (cr .entry) }) ⌝ }
 {
+    put_blanking(due, words);
+    let system = due.system;
+    let active = system.active_offset();
+    if due.v {
+        put_fill(due, active, words.len(), words);
+        return;
+    }
+    put_active(y, cb, cr, active, words);
+}
+
+// Writes all but the active part: EAV, fill, SAV.
+pub(crate) fn put_blanking(due: Due, words: &mut [u16])
+    requires { ⌜ length (now words) ≡ lineLength (due .system) ⌝ }
+    ensures { λ _. ⌜ ((p : Samples) → Blanked due p (now (words .exit))) ⌝ }
+{
     let system = due.system;
     let sav = system.sav_offset();
-    let end = words.len();
     put_code(due.flags(true), 0, words);
     put_fill(due, 4, sav, words);
     put_code(due.flags(false), sav, words);
-    if due.v {
-        put_fill(due, sav + 4, end, words);
-        return;
-    }
-    put_active(y, cb, cr, sav + 4, words);
 }
 
 // Writes the timing code of F, V, H from an offset on, with the low bits as shown.
@@ -186,21 +188,21 @@ fn put_code(fvh: u32, at: usize, words: &mut [u16])
     requires { ⌜ at + 4 ≤ length (now words) ⌝ }
     ensures { λ _. ⌜ Put (codeWord fvh at) at (at + 4) (now (words .entry)) (now (words .exit)) ⌝ }
 {
-    words[at] = 1023;
+    words[at] = MOST_WORD;
     words[at + 1] = 0;
     words[at + 2] = 0;
     words[at + 3] = fourth(fvh);
 }
 
 // Writes fill from one even offset up to another.
-fn put_fill(due: Due, from: usize, to: usize, words: &mut [u16])
+pub(crate) fn put_fill(due: Due, from: usize, to: usize, words: &mut [u16])
     requires { ⌜ (from % 2 ≡ 0) × (to % 2 ≡ 0) × (from ≤ to) × (to ≤ length (now words)) ⌝ }
     ensures { λ _. ⌜ Put (fillWord due) from to (now (words .entry)) (now (words .exit)) ⌝ }
 {
     for pair in 0..(to - from) / 2 {
         let offset = from + 2 * pair;
-        words[offset] = due.even;
-        words[offset + 1] = due.odd;
+        words[offset] = due.fill.even;
+        words[offset + 1] = due.fill.odd;
     }
 }
 

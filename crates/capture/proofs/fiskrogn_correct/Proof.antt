@@ -8,6 +8,9 @@ use Rattle.capture.proofs.Laws.{clean-answer, repaired-answer, refused-
 use Rattle.capture.proofs.fiskrogn_correct.Statement.{statement}
 use Rattle.capture.proofs.fiskrogn_correct.Tie as tie
 
+cast-if1 : tie.Need-cast-if1
+cast-if1 c = search needs
+
 mul-result : tie.Need-mul-result
 mul-result c = search needs
 
@@ -82,6 +85,7 @@ pub fiskrogn-correct-spec : {M : Type 1} → statement M
 fiskrogn-correct-spec =
     tie.close
     (tie.spec
+    cast-if1
     mul-result
     returns
     cast-correct

@@ -4,20 +4,21 @@ use Prim.Native.Nat.{ℕ, _+_, _*_}
 use mathlib.Core.Path.{_≡_, sym, ap, subst, _∙_}
 use mathlib.Core.List.{List}
 use native.Mathlib.Omega.{arith}
+use denote.Ref.{now}
 use borrow.Author.Tests.{eq-eqb, ne-eqb}
 use Rattle.timing.specs.Report.{repairsOf}
-use Rattle.system.specs.declared.Walk.{Walk}
-use Rattle.reader.specs.declared.Judgement.{Judgement}
-use Rattle.lent.specs.Bytes.{judgedBytes}
-use Rattle.lent.proofs.Theorems.{bytes-number}
-use Rattle.capture.specs.Answer.{answered, judgeAnswer}
+use Rattle.system.specs.declared.walk.Walk.{Walk}
+use Rattle.system.specs.declared.walk.Judgement.{Judgement}
+use Rattle.bytewise.specs.Bytes.{judgedBytes}
+use Rattle.bytewise.proofs.Theorems.{bytes-number}
+use Rattle.capture.specs.Answer.{inOneNumber, judgeAnswer}
 use Rattle.capture.proofs.Bounds.{Small, small-bytes}
 use Rattle.capture.proofs.fiskrogn_judge.Statement.{statement}
 use Rattle.capture.proofs.fiskrogn_judge.Tie as tie
 
--- what a judgement is answered with
+-- what a judgement is inOneNumber with
 abbrev answerTo : Judgement → ℕ
-answerTo j = answered (record { number = j .number; place = j .place }) (repairsOf (j .report))
+answerTo j = inOneNumber (record { number = j .number; place = j .place }) (repairsOf (j .report))
 
 module _ (w : Walk) (bytes : List ℕ) (j : Judgement) (is : j ≡ judgedBytes w bytes) where
   small : Small (record { number = j .number; place = j .place })
@@ -33,29 +34,44 @@ module _ (w : Walk) (bytes : List ℕ) (j : Judgement) (is : j ≡ judgedBytes w
   unfolding judgeAnswer
   accepted-answer e = sym (sym (ap answerTo is) ∙ simp (eq-eqb _ _ e))
 
+abbrev walk-of : tie.After-judge → Walk
+walk-of c =
+    let a = c .before .before .before .args in
+    record { system = a .system; line = a .line; lines = a .lines-read; repairs = a .repairs }
+
+abbrev bytes-of : tie.After-judge → List ℕ
+bytes-of c = now (c .before .before .before .args .bytes)
+
+-- the judgement of the walk that holds the numbers given
+judged : (c : tie.After-judge) → c .judge .result ≡ judgedBytes (walk-of c) (bytes-of c)
+judged c = c .judge .ensures ∙ ap (λ (w : Walk). judgedBytes w (bytes-of c)) (c .before .of .ensures)
+
+of-requires : tie.Need-of-requires
+of-requires c κs = tt
+
 judge-requires : tie.Need-judge-requires
 judge-requires c κs = search needs
 
 mul-result : tie.Need-mul-result
 mul-result c =
     let j = c .before .before .before in
-    omega (arith, small _ _ (j .judge .result) (j .judge .ensures) .number)
+    omega (arith, small (walk-of j) (bytes-of j) (j .judge .result) (judged j) .number)
 
 cast-result : tie.Need-cast-result
 cast-result c =
     let j = c .before .before .before .before in
-    omega (arith, small _ _ (j .judge .result) (j .judge .ensures) .place)
+    omega (arith, small (walk-of j) (bytes-of j) (j .judge .result) (judged j) .place)
 
 add-result : tie.Need-add-result
 add-result c =
     let j = c .before .before .before .before in
-    let s = small _ _ (j .judge .result) (j .judge .ensures) in
+    let s = small (walk-of j) (bytes-of j) (j .judge .result) (judged j) in
     omega (arith, s .number, s .place)
 
 returns : tie.Need-returns
 returns c =
     let j = c .before .before .before .before in
-    refused-answer _ _ (j .judge .result) (j .judge .ensures) (c .before .before .if1 .taken)
+    refused-answer (walk-of j) (bytes-of j) (j .judge .result) (judged j) (c .before .before .if1 .taken)
 
 repairs-requires : tie.Need-repairs-requires
 repairs-requires c κs = search needs
@@ -63,9 +79,9 @@ repairs-requires c κs = search needs
 returns-2 : tie.Need-returns-2
 returns-2 c =
     let j = c .before .before .before .before in
-    c .repairs .ensures ∙ accepted-answer _ _ (j .judge .result) (j .judge .ensures) (c .before .before .if1 .left)
+    c .repairs .ensures ∙ accepted-answer (walk-of j) (bytes-of j) (j .judge .result) (judged j) (c .before .before .if1 .left)
 
 pub fiskrogn-judge-spec : {M : Type 1} → statement M
 fiskrogn-judge-spec =
     tie.close
-    (tie.spec judge-requires mul-result cast-result add-result returns repairs-requires returns-2)
+    (tie.spec of-requires judge-requires mul-result cast-result add-result returns repairs-requires returns-2)

@@ -1,5 +1,5 @@
 -- `confirm::come_to` meets its contract: by whether a read failed, and whether reading was done. Assumes nothing.
-use mathlib.Core.Path.{_≡_, _∙_}
+use mathlib.Core.Path.{_≡_}
 use mathlib.Core.Bool.{true, false}
 use Rattle.console.specs.declared.Read.{Read}
 use Rattle.console.specs.Status.{endedOf, unreadOf}

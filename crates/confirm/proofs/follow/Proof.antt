@@ -1,6 +1,6 @@
 -- `confirm::follow` is safe and ends: its turns count down, and the bytes read lie within the buffer. Assumes nothing.
 use borrow.Author.Needs.{needs}
-use Prim.Native.Nat.{_≤_, _-_}
+use Prim.Native.Nat.{_≤_}
 use mathlib.Core.Path.{_≡_}
 use lib.ListN.{length}
 use Rattle.confirm.proofs.follow.Statement.{statement}
@@ -18,11 +18,11 @@ loop-holds c = search needs
 turn-requires : tie.Need-turn-requires Inv-loop μ-loop
 turn-requires c κs = search needs
 
-sub-turns : tie.Need-sub-turns Inv-loop μ-loop
-sub-turns c = search needs
+turns-left-requires : tie.Need-turns-left-requires Inv-loop μ-loop
+turns-left-requires c κs = search needs
 
-show-requires : tie.Need-show-requires Inv-loop μ-loop
-show-requires c κs = search needs
+show-turn-requires : tie.Need-show-turn-requires Inv-loop μ-loop
+show-turn-requires c κs = tt
 
 loop-less : tie.Need-loop-less Inv-loop μ-loop
 loop-less c = search needs
@@ -30,23 +30,11 @@ loop-less c = search needs
 loop-again : tie.Need-loop-again Inv-loop μ-loop
 loop-again c = search needs
 
-loop-less-2 : tie.Need-loop-less-2 Inv-loop μ-loop
-loop-less-2 c = search needs
-
-loop-again-2 : tie.Need-loop-again-2 Inv-loop μ-loop
-loop-again-2 c = search needs
-
 same-length : tie.Need-same-length Inv-loop μ-loop
 same-length c = search needs
 
 returns : tie.Need-returns Inv-loop μ-loop
-returns c = search needs
-
-same-length-2 : tie.Need-same-length-2 Inv-loop μ-loop
-same-length-2 c = search needs
-
-returns-2 : tie.Need-returns-2 Inv-loop μ-loop
-returns-2 c = search needs
+returns c = tt
 
 pub follow-spec : {M : Type 1} → statement M
 follow-spec =
@@ -56,13 +44,9 @@ follow-spec =
     μ-loop
     loop-holds
     turn-requires
-    sub-turns
-    show-requires
+    turns-left-requires
+    show-turn-requires
     loop-less
     loop-again
-    loop-less-2
-    loop-again-2
     same-length
-    returns
-    same-length-2
-    returns-2)
+    returns)

@@ -1,7 +1,7 @@
 -- `confirm::reach` meets its contract: the run is followed over the bytes that lie ready, and takes no more than there are. Assumes nothing.
 use borrow.Author.Needs.{needs}
 use Prim.Native.Nat.{ℕ, _+_, _-_, _≤_}
-use mathlib.Core.Path.{_≡_, sym, ap, subst, _∙_}
+use mathlib.Core.Path.{_≡_, sym, ap, subst}
 use mathlib.Core.Bool.{false, not}
 use mathlib.Core.List.{List}
 use native.Mathlib.Omega.{arith}
@@ -13,7 +13,6 @@ use Rattle.confirmation.specs.declared.Run.{Run}
 use Rattle.confirmation.specs.declared.Followed.{Followed}
 use Rattle.confirmation.specs.Follow.{followedOf}
 use Rattle.confirmation.proofs.Theorems.{taken-within}
-use Rattle.confirm.specs.declared.Ready.{Ready}
 use Rattle.confirm.specs.Turn.{part, readyAfter, reachedOf}
 use Rattle.confirm.proofs.reach.Statement.{statement}
 use Rattle.confirm.proofs.reach.Tie as tie

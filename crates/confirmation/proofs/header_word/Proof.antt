@@ -9,28 +9,32 @@ use Rattle.confirmation.proofs.header_word.Tie as tie
 returns : tie.Need-returns
 returns c = simp (lt-ltb _ headerLength (c .if1 .taken))
 
-shared-slice-read-word : tie.Need-shared-slice-read-word
-shared-slice-read-word c = search needs
+shared-slice-read-word-of : tie.Need-shared-slice-read-word-of
+shared-slice-read-word-of c = search needs
 
-add-word : tie.Need-add-word
-add-word c = search needs
+add-word-of : tie.Need-add-word-of
+add-word-of c = search needs
 
-shared-slice-read-word-2 : tie.Need-shared-slice-read-word-2
-shared-slice-read-word-2 c = search needs
+shared-slice-read-word-of-2 : tie.Need-shared-slice-read-word-of-2
+shared-slice-read-word-of-2 c = search needs
 
-word-requires : tie.Need-word-requires
-word-requires c κs = search needs
+word-of-requires : tie.Need-word-of-requires
+word-of-requires c κs = search needs
+
+cast-result : tie.Need-cast-result
+cast-result c = search needs
 
 returns-2 : tie.Need-returns-2
-returns-2 c = c .word .ensures ∙ simp (le-ltb _ headerLength (c .before .before .before .if1 .left))
+returns-2 c = c .word-of .ensures ∙ simp (le-ltb _ headerLength (c .before .before .before .if1 .left))
 
 pub header-word-spec : {M : Type 1} → statement M
 header-word-spec =
     tie.close
     (tie.spec
     returns
-    shared-slice-read-word
-    add-word
-    shared-slice-read-word-2
-    word-requires
+    shared-slice-read-word-of
+    add-word-of
+    shared-slice-read-word-of-2
+    word-of-requires
+    cast-result
     returns-2)

@@ -1,19 +1,15 @@
 -- `console::filled_by` meets its contract: what the count told, and that more is filled where reading goes on. Assumes nothing.
 use borrow.Author.Needs.{needs}
-use Prim.Native.Nat.{ℕ, _+_, _-_, _^_, _<_, _≤_}
+use Prim.Native.Nat.{ℕ, _-_, _^_, _<_, _≤_}
 use mathlib.Core.Path.{_≡_, sym, ap, subst, _∙_}
 use mathlib.Core.Bool.{false}
-use mathlib.Core.List.{List}
 use native.Mathlib.Omega.{arith}
 use lib.IntN.{ℤ}
-use lib.ListN.{length, take, drop, length-drop}
-use lib.Seq.{length-take-le}
-use mir.Syntax.{w64}
-use mir.ValLaws.{toZ-ofZ}
+use lib.ListN.{length}
 use Rattle.intake.specs.declared.Told.{Told}
 use Rattle.intake.specs.declared.Filled.{Filled}
 use Rattle.intake.specs.Arrival.{toldOf, WithinRoom, soFar, filledAfter}
-use Rattle.console.proofs.Fills.{filled-within}
+use Rattle.console.proofs.Fills.{filled-within, told-behind}
 use Rattle.console.proofs.filled_by.Statement.{statement}
 use Rattle.console.proofs.filled_by.Tie as tie
 
@@ -58,18 +54,11 @@ returns c =
     let b = t .before .before .before in
     let a = b .args in
     let size = length (a .buffer .now) in
-    let z = toZ-ofZ w64 (a .got) (b .fits .got) in
-    let behind = drop (a .have) (a .buffer .now) in
-    let left = length-drop (a .have) (a .buffer .now) in
-    let room : length (take (size - a .have) behind) ≡ size - a .have = length-take-le (size - a .have) behind (omega arith) in
-    let tells =
-    subst (λ (n : ℕ). t .tells .result ≡ toldOf (a .got) n) room
-    (subst (λ (g : ℤ). t .tells .result ≡ toldOf g (length (take (size - a .have) behind))) z (t .tells .ensures .0)) in
-    let within = subst (WithinRoom (t .tells .result)) room (t .tells .ensures .1) in
     let low : a .have ≤ size = omega arith in
-    let small : size < 2 ^ 64 = omega arith in (
-      by-count (a .got) (a .have) size (t .tells .result) (s .so-far .result) (c .after .result) low small tells within (s .so-far .ensures) (c .after .ensures),
-      more-filled (a .got) (a .have) size (t .tells .result) (s .so-far .result) (c .after .result) low small tells within (s .so-far .ensures) (c .after .ensures),
+    let small : size < 2 ^ 64 = omega arith in
+    let told = told-behind (a .buffer .now) (a .have) (a .got) (t .tells .result) low (b .fits .got) (t .tells .ensures) in (
+      by-count (a .got) (a .have) size (t .tells .result) (s .so-far .result) (c .after .result) low small (told .0) (told .1) (s .so-far .ensures) (c .after .ensures),
+      more-filled (a .got) (a .have) size (t .tells .result) (s .so-far .result) (c .after .result) low small (told .0) (told .1) (s .so-far .ensures) (c .after .ensures),
     )
 
 pub filled-by-spec : {M : Type 1} → statement M

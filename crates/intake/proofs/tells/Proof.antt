@@ -12,9 +12,8 @@ use mir.Syntax.{w64}
 use mir.ValLaws.{toZ-ofZ}
 use borrow.Author.Tests.{le-ltb, ltb-true, eq-eqb, ne-eqb, eqb-true}
 use Rattle.io.specs.Counts.{clamped}
-use Rattle.intake.specs.declared.Told.{Told}
 use Rattle.intake.specs.declared.Told.the-variants.{Failed, Ended, Bytes}
-use Rattle.intake.specs.Arrival.{isNegative, toldOf, WithinRoom}
+use Rattle.intake.specs.Arrival.{isNegative, toldOf}
 use Rattle.intake.proofs.tells.Statement.{statement}
 use Rattle.intake.proofs.tells.Tie as tie
 

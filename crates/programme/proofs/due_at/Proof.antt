@@ -2,7 +2,7 @@
 use borrow.Author.Needs.{needs}
 use mathlib.Core.Path.{ap, _∙_}
 use Rattle.system.specs.declared.System.{System}
-use Rattle.line.specs.Due.{dueOf}
+use Rattle.system.specs.Due.{dueOf}
 use Rattle.programme.proofs.due_at.Statement.{statement}
 use Rattle.programme.proofs.due_at.Tie as tie
 

@@ -2,8 +2,8 @@
 use borrow.Author.Needs.{needs}
 use mathlib.Core.Path.{ap}
 use mathlib.Core.Bool.{not}
-use Rattle.line.specs.declared.Due.{Due}
-use Rattle.line.specs.Due.{dueOf}
+use Rattle.system.specs.declared.due.Due.{Due}
+use Rattle.system.specs.Due.{dueOf}
 use Rattle.programme.specs.Record.{takesRow}
 use Rattle.programme.proofs.takes_row.Statement.{statement}
 use Rattle.programme.proofs.takes_row.Tie as tie

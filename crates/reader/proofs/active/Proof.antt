@@ -8,11 +8,12 @@ use denote.Ref.{now}
 use lib.ListN.{length, take, drop}
 use Rattle.refusal.specs.Answer.{none}
 use Rattle.system.specs.declared.System.{System}
-use Rattle.system.specs.declared.Walk.{Walk}
+use Rattle.system.specs.declared.walk.Walk.{Walk}
 use Rattle.system.specs.Figures.{activeOffset, systemOf}
 use Rattle.system.proofs.Laws.{sav-high}
+use Rattle.system.specs.Walk.{lineWords}
 use Rattle.line.specs.Samples.{activeLength}
-use Rattle.reader.specs.declared.Judgement.{Judgement}
+use Rattle.system.specs.declared.walk.Judgement.{Judgement}
 use Rattle.reader.specs.Judge.{readRefusal, judgedOf, activeOf}
 use Rattle.reader.proofs.Judged.{active-fits, answered, active-refused, active-accepted}
 use Rattle.reader.proofs.active.Statement.{statement}
@@ -21,17 +22,17 @@ use Rattle.reader.proofs.active.Tie as tie
 -- the line that was judged, and where its active part starts
 module _ (w : Walk) (words : List ℕ) (j : Judgement) (is-judged : j ≡ judgedOf none w words) where
   nothing : (j .number ≡ 0 → ⊥) → [] ≡ activeOf w words
-  nothing n = sym (active-refused w words (λ z. n (answered none w words j is-judged ∙ z)))
+  nothing n = sym (active-refused w words (λ z. n (answered (length words) (lineWords w) none w words j is-judged ∙ z)))
 
   module _ (z : j .number ≡ 0) (s : System) (is-system : s ≡ systemOf (w .system)) (start : ℕ) (is-start : start ≡ activeOffset s) where
     well : readRefusal none w words .number ≡ 0
-    well = sym (answered none w words j is-judged) ∙ z
+    well = sym (answered (length words) (lineWords w) none w words j is-judged) ∙ z
 
     start-due : start ≡ activeOffset (systemOf (w .system))
     start-due = is-start ∙ ap activeOffset is-system
 
     fits : start + activeLength ≤ length words
-    fits = rw start-due (active-fits none w words well)
+    fits = rw start-due (active-fits w words none well)
 
     part : take (start + activeLength - start) (drop start words) ≡ activeOf w words
     part =

@@ -1,8 +1,8 @@
 -- `decode` meets its contract: it refuses before the first store, and otherwise runs from the state held. Assumes nothing.
 use borrow.Author.Needs.{needs}
-use mathlib.Core.Path.{_≡_, sym, ap, _∙_}
+use mathlib.Core.Path.{_≡_, sym, _∙_}
 use lib.ListN.{length}
-use Rattle.refusal.specs.declared.Refusal.{Refusal}
+use Rattle.refusal.proofs.Firsts.{same-number}
 use Rattle.serial.specs.Calls.{serialRefusal, decodeAnswer, decodeOutput}
 use Rattle.serial.proofs.Steps.{decode, afterDecode}
 use Rattle.serial.proofs.Refusals.{accepted}
@@ -13,7 +13,7 @@ use Rattle.serial.proofs.decode.Tie as tie
 -- past the refusal, its number is 0
 number-0 : (c : tie.Else1)
     → let a = c .before .before .before .before .before .args in serialRefusal (a .state) (a .words .now) (length (a .out .now)) .number ≡ 0
-number-0 c = sym (ap (λ (r : Refusal). r .number) (c .before .before .refusal-of .ensures)) ∙ c .if1 .left
+number-0 c = sym (same-number (c .before .before .refusal-of .ensures)) ∙ c .if1 .left
 
 refusal-of-requires : tie.Need-refusal-of-requires
 refusal-of-requires c κs = search needs

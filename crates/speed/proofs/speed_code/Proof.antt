@@ -1,6 +1,6 @@
 -- `speed::speed_code` meets its contract: the call's own. Assumes nothing.
 use borrow.Author.Needs.{needs}
-use mathlib.Core.Path.{ap, _∙_}
+use mathlib.Core.Path.{ap}
 use Rattle.serial.specs.declared.Answer.{Answer}
 use Rattle.speed.proofs.speed_code.Statement.{statement}
 use Rattle.speed.proofs.speed_code.Tie as tie

@@ -1,6 +1,6 @@
 -- `speed::speed_write` meets its contract: the call's own. Assumes nothing.
 use borrow.Author.Needs.{needs}
-use mathlib.Core.Path.{ap, _∙_}
+use mathlib.Core.Path.{ap}
 use Rattle.refusal.specs.declared.Refusal.{Refusal}
 use Rattle.speed.proofs.speed_write.Statement.{statement}
 use Rattle.speed.proofs.speed_write.Tie as tie

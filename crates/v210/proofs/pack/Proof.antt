@@ -1,10 +1,9 @@
 -- `v210::pack` meets its contract: a refusal comes before the first store, and what is not refused fits. Assumes nothing.
 use borrow.Author.Needs.{needs}
-use mathlib.Core.Path.{_≡_, sym, ap, _∙_}
+use mathlib.Core.Path.{_≡_, sym, _∙_}
 use denote.Ref.{now}
 use lib.ListN.{length}
-use borrow.Author.Tests.{eq-eqb, ne-eqb}
-use Rattle.refusal.specs.declared.Refusal.{Refusal}
+use Rattle.refusal.proofs.Firsts.{same-number, written-accepted, written-refused}
 use Rattle.v210.specs.Row.{packRefusal, rowAfter}
 use Rattle.v210.proofs.Refusals.{pack-accepted}
 use Rattle.v210.proofs.pack.Statement.{statement}
@@ -16,7 +15,7 @@ start-of c = c .before .before .before
 
 number-is : (c : tie.After-pack-refusal)
     → c .pack-refusal .result .number ≡ packRefusal (now (start-of c .args .samples)) (length (now (start-of c .args .row))) .number
-number-is c = ap (λ (r : Refusal). r .number) (c .pack-refusal .ensures)
+number-is c = same-number (c .pack-refusal .ensures)
 
 -- past the refusal, its number is 0
 number-0 : (c : tie.Else1)
@@ -30,7 +29,7 @@ returns : tie.Need-returns
 unfolding rowAfter
 returns c =
     let judged = c .before .before in
-    (judged .pack-refusal .ensures, simp (ne-eqb _ _ (λ z. c .if1 .taken (number-is judged ∙ z))))
+    (judged .pack-refusal .ensures, sym (written-refused _ _ _ (λ z. c .if1 .taken (number-is judged ∙ z))))
 
 put-together-requires : tie.Need-put-together-requires
 put-together-requires c κs = pack-accepted _ _ (number-0 (c .before))
@@ -43,7 +42,7 @@ unfolding rowAfter
 returns-2 c =
     let put = c .before .before in
     let left = put .before .before in
-    (left .before .before .pack-refusal .ensures, simp (eq-eqb _ _ (number-0 left)) (put .put-together .ensures))
+    (left .before .before .pack-refusal .ensures, put .put-together .ensures ∙ sym (written-accepted _ _ _ (number-0 left)))
 
 pub pack-spec : {M : Type 1} → statement M
 pack-spec =

@@ -16,11 +16,11 @@ returns-2 : tie.Need-returns-2
 unfolding packRefusal orElse
 returns-2 c = simp (eq-eqb _ _ (c .before .if1 .left), ne-eqb _ _ (c .if2 .taken))
 
-over-refusal-requires : tie.Need-over-refusal-requires
-over-refusal-requires c κs = search needs
+first-over-requires : tie.Need-first-over-requires
+first-over-requires c κs = search needs
 
 returns-3 : tie.Need-returns-3
-returns-3 c = c .over-refusal .ensures ∙ sym (pack-measured _ _ (c .before .before .if1 .left) (c .before .if2 .left))
+returns-3 c = c .first-over .ensures ∙ sym (pack-measured _ _ (c .before .before .if1 .left) (c .before .if2 .left))
 
 pub pack-refusal-spec : {M : Type 1} → statement M
-pack-refusal-spec = tie.close (tie.spec returns returns-2 over-refusal-requires returns-3)
+pack-refusal-spec = tie.close (tie.spec returns returns-2 first-over-requires returns-3)

@@ -6,10 +6,10 @@ use native.Mathlib.Omega.{arith}
 use borrow.Author.Needs.{needs}
 use denote.Ref.{now}
 use lib.ListN.{length, getD, set, length-set}
-use Rattle.line.proofs.Tabs.{is-tab}
+use Rattle.words.proofs.Tabs.{is-tab}
 use Rattle.v210.specs.Row.{rowLength, rowWords, samplesWord, eightBits, rowByte, packedOf}
 use Rattle.v210.proofs.Places.{byte-at}
-use Rattle.line.proofs.Stores.{store-more}
+use Rattle.words.proofs.Stores.{store-more}
 use Rattle.v210.proofs.put_together.Statement.{statement}
 use Rattle.v210.proofs.put_together.Tie as tie
 

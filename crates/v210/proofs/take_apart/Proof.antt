@@ -7,10 +7,10 @@ use borrow.Author.Needs.{needs}
 use denote.Ref.{now}
 use lib.ListN.{length, getD, set, length-set}
 use Rattle.line.specs.Samples.{activeLength}
-use Rattle.line.proofs.Tabs.{is-tab}
+use Rattle.words.proofs.Tabs.{is-tab}
 use Rattle.v210.specs.Row.{rowWords, rowWord, tenBits, rowSample, unpackedOf}
 use Rattle.v210.proofs.Places.{sample-at}
-use Rattle.line.proofs.Stores.{store-more}
+use Rattle.words.proofs.Stores.{store-more}
 use Rattle.v210.proofs.take_apart.Statement.{statement}
 use Rattle.v210.proofs.take_apart.Tie as tie
 

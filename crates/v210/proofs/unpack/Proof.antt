@@ -1,10 +1,9 @@
 -- `v210::unpack` meets its contract: a refusal comes before the first store, and what is not refused fits. Assumes nothing.
 use borrow.Author.Needs.{needs}
-use mathlib.Core.Path.{_≡_, sym, ap, _∙_}
+use mathlib.Core.Path.{_≡_, sym, _∙_}
 use denote.Ref.{now}
 use lib.ListN.{length}
-use borrow.Author.Tests.{eq-eqb, ne-eqb}
-use Rattle.refusal.specs.declared.Refusal.{Refusal}
+use Rattle.refusal.proofs.Firsts.{same-number, written-accepted, written-refused}
 use Rattle.v210.specs.Row.{unpackRefusal, samplesAfter}
 use Rattle.v210.proofs.Refusals.{unpack-accepted}
 use Rattle.v210.proofs.unpack.Statement.{statement}
@@ -16,7 +15,7 @@ start-of c = c .before .before .before
 
 number-is : (c : tie.After-unpack-refusal)
     → c .unpack-refusal .result .number ≡ unpackRefusal (now (start-of c .args .row)) (length (now (start-of c .args .samples))) .number
-number-is c = ap (λ (r : Refusal). r .number) (c .unpack-refusal .ensures)
+number-is c = same-number (c .unpack-refusal .ensures)
 
 -- past the refusal, its number is 0
 number-0 : (c : tie.Else1)
@@ -30,7 +29,7 @@ returns : tie.Need-returns
 unfolding samplesAfter
 returns c =
     let judged = c .before .before in
-    (judged .unpack-refusal .ensures, simp (ne-eqb _ _ (λ z. c .if1 .taken (number-is judged ∙ z))))
+    (judged .unpack-refusal .ensures, sym (written-refused _ _ _ (λ z. c .if1 .taken (number-is judged ∙ z))))
 
 take-apart-requires : tie.Need-take-apart-requires
 take-apart-requires c κs =
@@ -45,7 +44,7 @@ unfolding samplesAfter
 returns-2 c =
     let put = c .before .before in
     let left = put .before .before in
-    (left .before .before .unpack-refusal .ensures, simp (eq-eqb _ _ (number-0 left)) (put .take-apart .ensures))
+    (left .before .before .unpack-refusal .ensures, put .take-apart .ensures ∙ sym (written-accepted _ _ _ (number-0 left)))
 
 pub unpack-spec : {M : Type 1} → statement M
 unpack-spec =

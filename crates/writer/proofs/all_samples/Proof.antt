@@ -1,24 +1,20 @@
 -- `writer::all_samples` meets its contract: every word passed lies between the lowest and the highest so far. Assumes nothing.
 use Prim.Native.Nat.{ℕ, _+_, _-_, _<_, _≤_}
-use mathlib.Core.Path.{_≡_, refl, sym, subst}
-use mathlib.Core.Bool.{Bool, true, false, true≢false, _&&_}
+use mathlib.Core.Path.{_≡_, subst}
+use mathlib.Core.Bool.{true, _&&_}
 use native.Mathlib.Omega.{arith}
 use lib.Dec.{eqb, ltb}
 use lib.ListN.{getD}
 use borrow.Author.Count.{below-more}
 use borrow.Author.Needs.{needs}
 use borrow.Author.Tests.{eqb-true, ltb-true, ltb-false}
-use Rattle.refusal.proofs.Cases.{by-test}
+use Rattle.refusal.proofs.Cases.{by-test, and-true}
 use Rattle.line.specs.Fault.{leastSample, mostSample}
 use Rattle.line.specs.Samples.{Samples, yLength, cLength}
 use Rattle.line.specs.Fit.{Inside}
 use Rattle.writer.proofs.Places.{each-place}
 use Rattle.writer.proofs.all_samples.Statement.{statement}
 use Rattle.writer.proofs.all_samples.Tie as tie
-
-and-both : (a b : Bool) → (a && b) ≡ true → (a ≡ true) × (b ≡ true)
-and-both true b e = (refl, e)
-and-both false b e = absurd (true≢false (sym e))
 
 -- a word lies between two others
 abbrev Within : ℕ → ℕ → ℕ → Type 0
@@ -37,7 +33,7 @@ module _ (p : Samples) (half lowest highest : ℕ) (e : half ≡ cLength) (kept 
     -- the lowest and the highest are the least and the most sample, so what lies between is a sample
     sample : (w : ℕ) → Within lowest highest w → Within leastSample mostSample w
     sample w h =
-        let both = and-both (eqb lowest leastSample) (eqb highest mostSample) kept in
+        let both = and-true (eqb lowest leastSample) (eqb highest mostSample) kept in
         omega (arith, eqb-true lowest leastSample (both .0), eqb-true highest mostSample (both .1))
 
     -- the halves of Y are all of Y

@@ -32,13 +32,13 @@ loop-holds c = (omega arith, omega arith, λ j l. absurd (omega arith))
 sample-at-requires : tie.Need-sample-at-requires Inv-loop μ-loop
 sample-at-requires c κs = search needs
 
-outside-requires : tie.Need-outside-requires Inv-loop μ-loop
-outside-requires c κs = search needs
+reserved-requires : tie.Need-reserved-requires Inv-loop μ-loop
+reserved-requires c κs = search needs
 
 returns : tie.Need-returns Inv-loop μ-loop
 returns c =
     let at = c .before .before .before .before in
-    let bad = test-at _ _ _ (c .before .before .sample-at .ensures) (c .before .outside .ensures) (c .if1 .taken) in
+    let bad = test-at _ _ _ (c .before .before .sample-at .ensures) (c .before .reserved .ensures) (c .if1 .taken) in
     ap (λ (n : ℕ). record { number = n; place = at .loop .place }) (sym bad)
     ∙ sym (first-at (outsideAt _) activeLength (at .loop .place) (omega arith) (at .loop .inv .2) (λ z. omega arith))
 
@@ -50,7 +50,7 @@ loop-less c = search needs
 
 loop-again : tie.Need-loop-again Inv-loop μ-loop
 loop-again c =
-    (omega arith, omega arith, below-more _ _ (c .before .before .before .before .loop .inv .2) (test-at _ _ _ (c .before .before .sample-at .ensures) (c .before .outside .ensures) (c .if1 .left)))
+    (omega arith, omega arith, below-more _ _ (c .before .before .before .before .loop .inv .2) (test-at _ _ _ (c .before .before .sample-at .ensures) (c .before .reserved .ensures) (c .if1 .left)))
 
 returns-2 : tie.Need-returns-2 Inv-loop μ-loop
 returns-2 c = sym (first-none (outsideAt _) activeLength (λ j l. c .before .loop .inv .2 j (omega arith)))
@@ -64,7 +64,7 @@ lowest-outside-spec =
     mul-place-end
     loop-holds
     sample-at-requires
-    outside-requires
+    reserved-requires
     returns
     add-place
     loop-less

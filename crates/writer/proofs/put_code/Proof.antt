@@ -5,7 +5,7 @@ use native.Mathlib.Omega.{arith}
 use denote.Ref.{now}
 use lib.ListN.{set, length-set}
 use borrow.Author.Needs.{needs}
-use Rattle.line.specs.Due.{codeAt}
+use Rattle.line.specs.Offsets.{codeAt}
 use Rattle.line.specs.Samples.{wordWhere}
 use Rattle.writer.specs.Passes.{codeWord}
 use Rattle.writer.proofs.Puts.{put-none, put-store}

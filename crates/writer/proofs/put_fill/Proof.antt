@@ -59,8 +59,8 @@ loop-again c =
     let l0 = now (a .words) in
     let even : i % 2 ≡ 0 = omega arith in
     let odd : ((i + 1) % 2 ≡ 0 → ⊥) = λ q. omega arith in
-    let first = put-store word (a .from) l0 i (i + 1) (a .due .even) (at .words) (at .inv .2) refl (omega arith) (omega arith) (simp (eq-eqb _ _ even)) in
-    (omega arith, omega arith, put-store word (a .from) l0 (i + 1) (a .from + 2 * (at .pair + 1)) (a .due .odd) (set (at .words) i (a .due .even)) first (omega arith) (omega arith) (omega arith) (simp (ne-eqb _ _ odd)))
+    let first = put-store word (a .from) l0 i (i + 1) (a .due .fill .even) (at .words) (at .inv .2) refl (omega arith) (omega arith) (simp (eq-eqb _ _ even)) in
+    (omega arith, omega arith, put-store word (a .from) l0 (i + 1) (a .from + 2 * (at .pair + 1)) (a .due .fill .odd) (set (at .words) i (a .due .fill .even)) first (omega arith) (omega arith) (omega arith) (simp (ne-eqb _ _ odd)))
 
 same-length : tie.Need-same-length Inv-loop μ-loop
 same-length c = search needs

@@ -1,4 +1,4 @@
--- The loop stays within the words and the answer, whose length it keeps.
+-- The loop stays within the words, and keeps the length of the answer.
 use Prim.Native.Nat.{_≤_, _-_}
 use mathlib.Core.Path.{_≡_}
 use borrow.Author.Needs.{needs}
@@ -7,22 +7,10 @@ use Rattle.cases.proofs.answer.put_words.Statement.{statement}
 use Rattle.cases.proofs.answer.put_words.Tie as tie
 
 abbrev Inv-loop : tie.InvT-loop
-Inv-loop answer₀ at words k₀ k-end answer k = (k ≤ length words) × (length answer ≡ length answer₀)
+Inv-loop answer₀ at words next₀ k₀ k-end answer next k = (k ≤ k-end) × (k-end ≡ length words) × (length answer ≡ length answer₀)
 
 abbrev μ-loop : tie.MeasureT-loop
-μ-loop answer₀ at words k₀ k-end answer k = length words - k
-
-returns : tie.Need-returns Inv-loop μ-loop
-returns c = search needs
-
-sub-if2 : tie.Need-sub-if2 Inv-loop μ-loop
-sub-if2 c = search needs
-
-add-result : tie.Need-add-result Inv-loop μ-loop
-add-result c = search needs
-
-returns-2 : tie.Need-returns-2 Inv-loop μ-loop
-returns-2 c = search needs
+μ-loop answer₀ at words next₀ k₀ k-end answer next k = k-end - k
 
 loop-holds : tie.Need-loop-holds Inv-loop μ-loop
 loop-holds c = search needs
@@ -30,17 +18,11 @@ loop-holds c = search needs
 mul-put-word : tie.Need-mul-put-word Inv-loop μ-loop
 mul-put-word c = search needs
 
-add-put-word : tie.Need-add-put-word Inv-loop μ-loop
-add-put-word c = search needs
-
-mul-put-word-2 : tie.Need-mul-put-word-2 Inv-loop μ-loop
-mul-put-word-2 c = search needs
-
 shared-slice-read-put-word : tie.Need-shared-slice-read-put-word Inv-loop μ-loop
 shared-slice-read-put-word c = search needs
 
 put-word-requires : tie.Need-put-word-requires Inv-loop μ-loop
-put-word-requires c κs = search needs
+put-word-requires c κs = tt
 
 add-k : tie.Need-add-k Inv-loop μ-loop
 add-k c = search needs
@@ -51,17 +33,11 @@ loop-less c = search needs
 loop-again : tie.Need-loop-again Inv-loop μ-loop
 loop-again c = search needs
 
-mul-result : tie.Need-mul-result Inv-loop μ-loop
-mul-result c = search needs
-
-add-result-2 : tie.Need-add-result-2 Inv-loop μ-loop
-add-result-2 c = search needs
-
 same-length : tie.Need-same-length Inv-loop μ-loop
 same-length c = search needs
 
-returns-3 : tie.Need-returns-3 Inv-loop μ-loop
-returns-3 c = search needs
+returns : tie.Need-returns Inv-loop μ-loop
+returns c = search needs
 
 pub put-words-spec : {M : Type 1} → statement M
 put-words-spec =
@@ -69,20 +45,12 @@ put-words-spec =
     (tie.spec
     Inv-loop
     μ-loop
-    returns
-    sub-if2
-    add-result
-    returns-2
     loop-holds
     mul-put-word
-    add-put-word
-    mul-put-word-2
     shared-slice-read-put-word
     put-word-requires
     add-k
     loop-less
     loop-again
-    mul-result
-    add-result-2
     same-length
-    returns-3)
+    returns)

@@ -1,7 +1,7 @@
 -- `confirmation::Run::next` meets its contract: the judgement's numbers beside the header's. Assumes nothing.
 use borrow.Author.Needs.{needs}
 use mathlib.Core.Path.{ap}
-use Rattle.reader.specs.declared.Judgement.{Judgement}
+use Rattle.system.specs.declared.walk.Judgement.{Judgement}
 use Rattle.confirmation.specs.Run.{judgedNext}
 use Rattle.confirmation.proofs.Run.next.Statement.{statement}
 use Rattle.confirmation.proofs.Run.next.Tie as tie

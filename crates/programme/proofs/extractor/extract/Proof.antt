@@ -1,131 +1,91 @@
--- `programme::extractor::extract` meets its contract, refusal by refusal in the document's order: with room for a row the byte judge's answer
--- is the answer, and the part that is packed is the active part. Assumes nothing.
+-- `programme::extractor::extract` meets its contract: refused before its words are looked at, judged, and packed where it gives a row. Assumes nothing.
 use borrow.Author.Needs.{needs}
-use Prim.Native.Nat.{ℕ, _*_}
+use Prim.Native.Nat.{ℕ}
 use mathlib.Core.Path.{_≡_, sym, ap, _∙_}
-use mathlib.Core.Bool.{true}
+use mathlib.Core.List.{List}
 use native.Mathlib.Omega.{arith}
 use denote.Ref.{now}
 use lib.ListN.{length}
 use Rattle.refusal.specs.declared.Refusal.{Refusal}
 use Rattle.refusal.proofs.Cases.{not-true, not-false}
-use Rattle.system.specs.Figures.{lineLength, systemOf}
-use Rattle.system.specs.Walk.{walkRefusal}
-use Rattle.system.proofs.Laws.{line-is-parts, sav-high}
-use Rattle.reader.specs.Judge.{refusedAt}
-use Rattle.lent.specs.Bytes.{bytesRefusal}
-use Rattle.programme.specs.Record.{takesRow}
-use Rattle.programme.proofs.Extracts.{extract-walk, extract-count, extract-room, refused-result, answer-number, judge-refused-result, blank-result, given-result, sliced-length, sliced-row, sliced-small}
+use Rattle.refusal.proofs.Firsts.{same-number}
+use Rattle.system.specs.declared.walk.Walk.{Walk}
+use Rattle.system.specs.Figures.{systemOf}
+use Rattle.system.specs.Walk.{lineBytes, standingRefusal}
+use Rattle.system.specs.Judgement.{refusedAt}
+use Rattle.system.proofs.Laws.{line-is-parts, accepted-stood}
+use Rattle.programme.proofs.Extracts.{standing-result, room-result, judge-refused-result, blank-result, given-result, answer-number, sliced-length, sliced-row, sliced-small}
 use Rattle.programme.proofs.extractor.extract.Statement.{statement}
 use Rattle.programme.proofs.extractor.extract.Tie as tie
 
--- the start, from the walk's refusal and from the line's length
-abbrev start-of : tie.After-refusal → tie.Start
-start-of c = c .before .before .before
+-- what the calls answered: the bytes that are due, and what refuses the line before its words are looked at
+module _ (w : Walk) (bytes : List ℕ) (due : ℕ) (is-due : due ≡ lineBytes w) (r : Refusal) (is-standing : r ≡ standingRefusal w (length bytes) due) where
+  standing-due : r ≡ standingRefusal w (length bytes) (lineBytes w)
+  standing-due = is-standing ∙ ap (standingRefusal w (length bytes)) is-due
 
-abbrev began : tie.After-line-length → tie.Start
-began c = start-of (c .before .before .before .before)
+  refuses : (r .number ≡ 0 → ⊥) → standingRefusal w (length bytes) (lineBytes w) .number ≡ 0 → ⊥
+  refuses n z = n (same-number standing-due ∙ z)
 
-number-is : (c : tie.After-refusal) → c .refusal .result .number ≡ walkRefusal (start-of c .args .walk) .number
-number-is c = ap (λ (r : Refusal). r .number) (c .refusal .ensures)
+  stands : r .number ≡ 0 → standingRefusal w (length bytes) (lineBytes w) .number ≡ 0
+  stands z = sym (same-number standing-due) ∙ z
 
--- past its refusal the walk stands, and the line's length is the system's
-stands : (c : tie.After-line-length) → walkRefusal (began c .args .walk) .number ≡ 0
-stands c = sym (number-is (c .before .before .before .before)) ∙ c .before .before .if1 .left
+  size : r .number ≡ 0 → length bytes ≡ lineBytes w
+  size z = accepted-stood w (length bytes) (lineBytes w) (stands z) .size
 
-words-due : (c : tie.After-line-length) → c .line-length .result ≡ lineLength (systemOf (began c .args .walk .system))
-words-due c = c .line-length .ensures ∙ ap lineLength (c .before .system-of .ensures)
+line-bytes-requires : tie.Need-line-bytes-requires
+line-bytes-requires c κs = search needs
 
--- past the count of bytes
-measured : (c : tie.Else2) → length (now (began (c .before) .args .bytes)) ≡ 2 * lineLength (systemOf (began (c .before) .args .walk .system))
-measured c = c .if2 .left ∙ ap (λ (n : ℕ). 2 * n) (words-due (c .before))
-
--- past the judgement: the line is accepted, and of V = 0
-well : (c : tie.Else5) → bytesRefusal (began (c .before .before .before .before .before .before .before) .args .walk) (now (began (c .before .before .before .before .before .before .before) .args .bytes)) .number ≡ 0
-well c =
-    let judged = c .before .before .before .before in
-    let a = began (judged .before .before .before) .args in
-    sym (answer-number (a .walk) (now (a .bytes)) (now (a .row)) (judged .before .if3 .left) (judged .judge .result) (judged .judge .ensures))
-    ∙ c .before .before .if4 .left
-
-taking : (c : tie.Else5) → takesRow (began (c .before .before .before .before .before .before .before) .args .walk) ≡ true
-taking c = sym (c .before .takes-row .ensures) ∙ not-false _ (c .if5 .left)
-
-refusal-requires : tie.Need-refusal-requires
-refusal-requires c κs = search needs
+standing-requires : tie.Need-standing-requires
+standing-requires c κs = search needs
 
 refused-requires : tie.Need-refused-requires
 refused-requires c κs = search needs
 
 returns : tie.Need-returns
 returns c =
-    let r = c .before .before .before in
-    let a = start-of r .args in
-    let refuses : (walkRefusal (a .walk) .number ≡ 0 → ⊥) = λ z. c .before .if1 .taken (number-is r ∙ z) in
-    refused-result (a .walk) (now (a .bytes)) (now (a .row)) (walkRefusal (a .walk)) (c .refused .result)
-    (extract-walk (a .walk) (now (a .bytes)) (length (now (a .row))) refuses) refuses
-    (c .refused .ensures ∙ ap (refusedAt (a .walk)) (r .refusal .ensures))
-
-system-of-requires : tie.Need-system-of-requires
-system-of-requires c κs = search needs
-
-line-length-requires : tie.Need-line-length-requires
-line-length-requires c κs = search needs
-
-mul-size : tie.Need-mul-size
-mul-size c =
-    let system = c .before .system-of .result in
-    omega (arith, c .line-length .ensures, line-is-parts system, sav-high system)
+    let a = c .before .before .before .before .before .before .before .args in
+    let s = c .before .before .before in
+    standing-result (a .walk) (now (a .bytes)) (now (a .row)) _ (refuses (a .walk) (now (a .bytes)) _ (s .before .line-bytes .ensures .0) _ (s .standing .ensures) (c .before .if1 .taken)) (c .refused .ensures ∙ ap (refusedAt (a .walk)) (standing-due (a .walk) (now (a .bytes)) _ (s .before .line-bytes .ensures .0) _ (s .standing .ensures)))
 
 refused-requires-2 : tie.Need-refused-requires-2
 refused-requires-2 c κs = search needs
 
 returns-2 : tie.Need-returns-2
 returns-2 c =
-    let l = c .before .before in
-    let a = began l .args in
-    refused-result (a .walk) (now (a .bytes)) (now (a .row)) _ (c .refused2 .result)
-    (extract-count (a .walk) (now (a .bytes)) (length (now (a .row))) (stands l)
-    (λ e. c .before .if2 .taken (e ∙ ap (λ (n : ℕ). 2 * n) (sym (words-due l)))))
-    (λ z. omega arith) (c .refused2 .ensures)
-
-refused-requires-3 : tie.Need-refused-requires-3
-refused-requires-3 c κs = search needs
-
-returns-3 : tie.Need-returns-3
-returns-3 c =
-    let e = c .before .before in
-    let a = began (e .before) .args in
-    refused-result (a .walk) (now (a .bytes)) (now (a .row)) _ (c .refused3 .result)
-    (extract-room (a .walk) (now (a .bytes)) (length (now (a .row))) (stands (e .before)) (measured e) (c .before .if3 .taken))
-    (λ z. omega arith) (c .refused3 .ensures)
+    let a = c .before .before .before .before .before .before .before .before .args in
+    let s = c .before .before .before .before in
+    room-result (a .walk) (now (a .bytes)) (now (a .row)) _ (stands (a .walk) (now (a .bytes)) _ (s .before .line-bytes .ensures .0) _ (s .standing .ensures) (c .before .before .if1 .left)) (c .before .if2 .taken) (c .refused2 .ensures)
 
 judge-requires : tie.Need-judge-requires
 judge-requires c κs = search needs
 
+returns-3 : tie.Need-returns-3
+returns-3 c =
+    let a = c .before .before .before .before .before .before .before .before .before .before .args in
+    let s = c .before .before .before .before .before .before in
+    judge-refused-result (a .walk) (now (a .bytes)) (now (a .row)) (c .before .before .before .if2 .left) _ (c .before .before .judge .ensures) (c .if3 .taken)
+
+gives-row-requires : tie.Need-gives-row-requires
+gives-row-requires c κs =
+    let a = c .before .before .before .before .before .before .before .before .before .before .args in
+    let s = c .before .before .before .before .before .before in
+    omega (arith, size (a .walk) (now (a .bytes)) _ (s .before .line-bytes .ensures .0) _ (s .standing .ensures) (c .before .before .before .before .if1 .left), line-is-parts (systemOf (a .walk .system)))
+
 returns-4 : tie.Need-returns-4
 returns-4 c =
-    let judged = c .before .before in
-    let a = began (judged .before .before .before) .args in
-    judge-refused-result (a .walk) (now (a .bytes)) (now (a .row)) (judged .before .if3 .left) (judged .judge .result) (judged .judge .ensures) (c .if4 .taken)
-
-takes-row-requires : tie.Need-takes-row-requires
-takes-row-requires c κs = search needs
-
-returns-5 : tie.Need-returns-5
-returns-5 c =
-    let judged = c .before .before .before .before in
-    let a = began (judged .before .before .before) .args in
-    blank-result (a .walk) (now (a .bytes)) (now (a .row)) (judged .before .if3 .left) (judged .judge .result) (judged .judge .ensures)
-    (sym (c .before .takes-row .ensures) ∙ not-true _ (c .if5 .taken))
+    let a = c .before .before .before .before .before .before .before .before .before .before .before .before .args in
+    let s = c .before .before .before .before .before .before .before .before in
+    blank-result (a .walk) (now (a .bytes)) (now (a .row)) (c .before .before .before .before .before .if2 .left) _ (c .before .before .before .before .judge .ensures)
+    (sym (c .before .gives-row .ensures) ∙ not-true _ (c .if4 .taken))
 
 mul-start : tie.Need-mul-start
 mul-start c = search needs
 
 sub-start : tie.Need-sub-start
 sub-start c =
-    let l = c .before .before .before .before .before .before .before in
-    omega (arith, l .line-length .ensures, line-is-parts (l .before .system-of .result))
+    let a = c .before .before .before .before .before .before .before .before .before .before .before .before .args in
+    let s = c .before .before .before .before .before .before .before .before in
+    omega (arith, s .before .line-bytes .ensures .0, line-is-parts (systemOf (a .walk .system)))
 
 sub-pack-active : tie.Need-sub-pack-active
 sub-pack-active c = search needs
@@ -134,51 +94,48 @@ part-pack-active-start : tie.Need-part-pack-active-start
 part-pack-active-start c = search needs
 
 part-pack-active-end : tie.Need-part-pack-active-end
-part-pack-active-end c = search needs
+part-pack-active-end c =
+    let a = c .before .before .before .before .before .before .before .before .before .before .before .before .args in
+    let s = c .before .before .before .before .before .before .before .before in
+    omega (arith, size (a .walk) (now (a .bytes)) _ (s .before .line-bytes .ensures .0) _ (s .standing .ensures) (c .before .before .before .before .before .before .if1 .left), s .before .line-bytes .ensures .0)
 
 pack-active-requires : tie.Need-pack-active-requires
 pack-active-requires c κs =
-    let e = c .before .before in
-    let counted = e .before .before .before .before .before in
-    let l = counted .before .before in
-    let a = began l .args in
-    let size = measured (counted .before) in (
-      (sliced-length (a .walk) (now (a .bytes)) size (l .line-length .result) (words-due l), counted .if3 .left),
-      sliced-small (a .walk) (now (a .bytes)) size (l .line-length .result) (words-due l) (taking e) (well e),
+    let a = c .before .before .before .before .before .before .before .before .before .before .before .before .before .before .args in
+    let s = c .before .before .before .before .before .before .before .before .before .before in
+    let whole = size (a .walk) (now (a .bytes)) _ (s .before .line-bytes .ensures .0) _ (s .standing .ensures) (c .before .before .before .before .before .before .before .before .if1 .left) in
+    let gives = sym (c .before .before .before .gives-row .ensures) ∙ not-false _ (c .before .before .if4 .left) in
+    let well = sym (answer-number (a .walk) (now (a .bytes)) (now (a .row)) (c .before .before .before .before .before .before .before .if2 .left) _ (c .before .before .before .before .before .before .judge .ensures)) ∙ c .before .before .before .before .if3 .left in (
+      (sliced-length (a .walk) (now (a .bytes)) whole _ (s .before .line-bytes .ensures .0), c .before .before .before .before .before .before .before .if2 .left),
+      sliced-small (a .walk) (now (a .bytes)) whole _ (s .before .line-bytes .ensures .0) gives well,
     )
 
 same-length : tie.Need-same-length
 same-length c = search needs
 
-returns-6 : tie.Need-returns-6
-returns-6 c =
-    let packed = c .before .before in
-    let e = packed .before .before .before in
-    let judged = e .before .before .before .before in
-    let l = judged .before .before .before in
-    let a = began l .args in
-    given-result (a .walk) (now (a .bytes)) (now (a .row)) (judged .before .if3 .left) (judged .judge .result) (judged .judge .ensures)
-    (e .before .before .if4 .left) (taking e) _
-    (packed .pack-active .ensures ∙ sliced-row (a .walk) (now (a .bytes)) (measured (judged .before .before)) (l .line-length .result) (words-due l))
+returns-5 : tie.Need-returns-5
+returns-5 c =
+    let a = c .before .before .before .before .before .before .before .before .before .before .before .before .before .before .before .before .before .args in
+    let s = c .before .before .before .before .before .before .before .before .before .before .before .before .before in
+    let whole = size (a .walk) (now (a .bytes)) _ (s .before .line-bytes .ensures .0) _ (s .standing .ensures) (c .before .before .before .before .before .before .before .before .before .before .before .if1 .left) in
+    given-result (a .walk) (now (a .bytes)) (now (a .row)) (c .before .before .before .before .before .before .before .before .before .before .if2 .left) _ (c .before .before .before .before .before .before .before .before .before .judge .ensures) (c .before .before .before .before .before .before .before .if3 .left)
+    (sym (c .before .before .before .before .before .before .gives-row .ensures) ∙ not-false _ (c .before .before .before .before .before .if4 .left)) _
+    (c .before .before .pack-active .ensures ∙ sliced-row (a .walk) (now (a .bytes)) whole _ (s .before .line-bytes .ensures .0))
 
 pub extract-spec : {M : Type 1} → statement M
 extract-spec =
     tie.close
     (tie.spec
-    refusal-requires
+    line-bytes-requires
+    standing-requires
     refused-requires
     returns
-    system-of-requires
-    line-length-requires
-    mul-size
     refused-requires-2
     returns-2
-    refused-requires-3
-    returns-3
     judge-requires
+    returns-3
+    gives-row-requires
     returns-4
-    takes-row-requires
-    returns-5
     mul-start
     sub-start
     sub-pack-active
@@ -186,4 +143,4 @@ extract-spec =
     part-pack-active-end
     pack-active-requires
     same-length
-    returns-6)
+    returns-5)

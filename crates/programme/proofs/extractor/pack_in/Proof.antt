@@ -1,11 +1,11 @@
 -- `programme::extractor::pack_in` meets its contract: bytes of ten-bit words are taken, and their words packed. Assumes nothing.
 use borrow.Author.Needs.{needs}
-use mathlib.Core.Path.{ap, _∙_}
+use mathlib.Core.Path.{_∙_}
 use native.Mathlib.Omega.{arith}
 use denote.Ref.{now}
 use lib.ListN.{length}
-use Rattle.refusal.specs.declared.Refusal.{Refusal}
-use Rattle.lent.proofs.Bytes.{pairs-accepted, filled-accepted}
+use Rattle.words.proofs.Bytes.{pairs-accepted}
+use Rattle.refusal.proofs.Firsts.{same-number, written-accepted}
 use Rattle.programme.proofs.Extracts.{words-packed}
 use Rattle.programme.proofs.extractor.pack_in.Statement.{statement}
 use Rattle.programme.proofs.extractor.pack_in.Tie as tie
@@ -31,7 +31,7 @@ returns c =
     let pairs = pairs-accepted (length bytes) (length (now (start .args .part))) (omega (arith, start .pre)) in
     let words =
     copied .to-words .ensures .1
-    ∙ filled-accepted (copied .to-words .result) _ _ (ap (λ (r : Refusal). r .number) (copied .to-words .ensures .0 ∙ pairs)) in
+    ∙ written-accepted (copied .to-words .result) _ _ (same-number (copied .to-words .ensures .0 ∙ pairs)) in
     packed .pack .ensures .1
     ∙ words-packed bytes _ (now (start .args .row)) words (start .pre .0 .0) (start .pre .0 .2) (start .pre .1)
 

@@ -1,28 +1,31 @@
--- `programme::recorder::record_in` meets its contract: a refusal comes before the first byte is stored. Assumes nothing.
+-- `programme::recorder::record_in` meets its contract: the line's words, and then their bytes. Assumes nothing.
 use borrow.Author.Needs.{needs}
 use Prim.Native.Nat.{ℕ, _*_}
 use mathlib.Core.Path.{_≡_, sym, ap, _∙_}
 use denote.Ref.{now}
 use lib.ListN.{length}
-use Rattle.system.specs.Figures.{lineLength, systemOf}
-use Rattle.programme.specs.Record.{recordRefusal}
-use Rattle.programme.proofs.Records.{same-number, record-line, recorded-as, bytes-refused-as, stepped-recorded, line-bytes-filled}
+use Rattle.refusal.specs.declared.Refusal.{Refusal}
+use Rattle.refusal.proofs.Firsts.{same-number}
+use Rattle.timing.specs.Report.{cleanReport}
+use Rattle.system.specs.declared.due.Due.{Due}
+use Rattle.system.specs.Walk.{lineBytes}
+use Rattle.system.specs.Judgement.{movedAt}
+use Rattle.system.proofs.Laws.{standing-accepted}
+use Rattle.programme.specs.Record.{rowRefusal, recordRefusal}
+use Rattle.programme.proofs.Records.{record-row, recorded-as, moved-recorded, bytes-refused-as, line-bytes-filled}
 use Rattle.programme.proofs.recorder.record_in.Statement.{statement}
 use Rattle.programme.proofs.recorder.record_in.Tie as tie
 
--- the start, from the answer of `write_line`, and what that answer is
-abbrev start-of : tie.After-write-line → tie.Start
-start-of c = c .before .before .before .before .before
+size-of : (c : tie.Start) → length (now (c .args .line)) ≡ lineBytes (c .args .walk)
+size-of c = c .pre .2 ∙ ap (λ (n : ℕ). 2 * n) (c .pre .1)
 
-size-of : (start : tie.Start) → length (now (start .args .line)) ≡ 2 * lineLength (systemOf (start .args .walk .system))
-size-of start = start .pre .2 ∙ ap (λ (n : ℕ). 2 * n) (start .pre .1)
-
-refusal-is : (c : tie.After-write-line)
-    → recordRefusal (start-of c .args .walk) (now (start-of c .args .row)) (length (now (start-of c .args .line))) ≡ c .write-line .result
-refusal-is c =
-    let start = start-of c in
-    record-line (start .args .walk) (now (start .args .row)) (length (now (start .args .line))) (start .pre .0) (size-of start)
-    ∙ sym (c .write-line .ensures .0)
+-- past the walk and the lengths, the row's refusal is the call's
+refusal-is : (c : tie.Start) (r : Refusal) → r ≡ rowRefusal (c .args .walk) (now (c .args .row))
+    → recordRefusal (c .args .walk) (now (c .args .row)) (length (now (c .args .line))) ≡ r
+refusal-is c r e =
+    let a = c .args in
+    record-row (a .walk) (now (a .row)) (length (now (a .line)))
+    (same-number (standing-accepted (a .walk) (length (now (a .line))) (lineBytes (a .walk)) (c .pre .0) (size-of c))) ∙ sym e
 
 write-line-requires : tie.Need-write-line-requires
 write-line-requires c κs = search needs
@@ -35,15 +38,18 @@ same-length c = search needs
 
 returns : tie.Need-returns
 returns c =
-    let told = c .before .before .before .before .before in
-    let args = start-of told .args in
-    let r = told .write-line .result in (
-      c .refused .ensures ∙ sym (recorded-as (args .walk) (now (args .row)) _ r (refusal-is told) (c .before .if1 .taken)),
-      sym (bytes-refused-as (args .walk) (now (args .row)) (now (args .line)) r (refusal-is told) (c .before .if1 .taken)),
+    let a = c .before .before .before .before .before .before .before .before .before .before .args in
+    let told = c .before .before .before .before .before .write-line in
+    let is = refusal-is (c .before .before .before .before .before .before .before .before .before .before) (told .result) (told .ensures .0) in (
+      c .refused .ensures ∙ sym (recorded-as (a .walk) (now (a .row)) _ (told .result) is (c .before .if1 .taken)),
+      sym (bytes-refused-as (a .walk) (now (a .row)) (now (a .line)) (told .result) is (c .before .if1 .taken)),
     )
 
 to-bytes-requires : tie.Need-to-bytes-requires
 to-bytes-requires c κs = search needs
+
+due-at-requires : tie.Need-due-at-requires
+due-at-requires c κs = search needs
 
 accepted-requires : tie.Need-accepted-requires
 accepted-requires c κs = search needs
@@ -56,15 +62,14 @@ same-length-3 c = search needs
 
 returns-2 : tie.Need-returns-2
 returns-2 c =
-    let put = c .before .before .before in
-    let left = put .before .before .before in
-    let told = left .before .before .before .before in
-    let start = start-of told in
-    let args = start .args in
-    let z = same-number (refusal-is told) ∙ left .if1 .left in (
-      c .accepted .ensures ∙ stepped-recorded (args .walk) (now (args .row)) _ (start .pre .0) z,
-      line-bytes-filled (args .walk) (now (args .row)) (now (args .line)) _ _ (put .to-bytes .result) (size-of start)
-          (told .write-line .ensures .1 (left .if1 .left)) (put .to-bytes .ensures .0) (put .to-bytes .ensures .1) z,
+    let start = c .before .before .before .before .before .before .before .before .before .before .before .before .before .before .before .before in
+    let a = start .args in
+    let told = c .before .before .before .before .before .before .before .before .before .before .before .write-line in
+    let put = c .before .before .before .before .to-bytes in
+    let z = same-number (refusal-is start (told .result) (told .ensures .0)) ∙ c .before .before .before .before .before .before .before .if1 .left in (
+      c .accepted .ensures ∙ ap (λ (d : Due). movedAt (a .walk) d cleanReport) (c .before .due-at .ensures) ∙ moved-recorded (a .walk) (now (a .row)) _ (start .pre .0) z,
+      line-bytes-filled (a .walk) (now (a .row)) (now (a .line)) _ _ (put .result) (size-of start)
+          (told .ensures .1 (c .before .before .before .before .before .before .before .if1 .left)) (put .ensures .0) (put .ensures .1) z,
     )
 
 pub record-in-spec : {M : Type 1} → statement M
@@ -76,6 +81,7 @@ record-in-spec =
     same-length
     returns
     to-bytes-requires
+    due-at-requires
     accepted-requires
     same-length-2
     same-length-3

@@ -6,14 +6,14 @@ use Rattle.line.specs.Fault.{faultWhere}
 use Rattle.reader.proofs.fault.fault_at.Statement.{statement}
 use Rattle.reader.proofs.fault.fault_at.Tie as tie
 
-at-requires : tie.Need-at-requires
-at-requires c κs = search needs
+due-at-requires : tie.Need-due-at-requires
+due-at-requires c κs = search needs
 
 fault-requires : tie.Need-fault-requires
 fault-requires c κs = search needs
 
 returns : tie.Need-returns
-returns c = c .fault .ensures ∙ ap (λ (due : What). faultWhere due (c .before .before .args .word)) (c .before .at .ensures)
+returns c = c .fault .ensures ∙ ap (λ (due : What). faultWhere due (c .before .before .args .word)) (c .before .due-at .ensures)
 
 pub fault-at-spec : {M : Type 1} → statement M
-fault-at-spec = tie.close (tie.spec at-requires fault-requires returns)
+fault-at-spec = tie.close (tie.spec due-at-requires fault-requires returns)

@@ -16,7 +16,10 @@ filled-requires c κs =
 
 returns : tie.Need-returns
 returns c = λ e.
-    (λ v. rw (c .before .before .active-offset .ensures) at (c .filled .ensures e), λ v. absurd (true≢false (sym (c .before .if1 .taken) ∙ v)))
+    record {
+      blank = λ v. rw (c .before .before .active-offset .ensures) at (c .filled .ensures e);
+      samples = λ v. absurd (true≢false (sym (c .before .if1 .taken) ∙ v));
+    }
 
 all-samples-requires : tie.Need-all-samples-requires
 all-samples-requires c κs =
@@ -24,7 +27,10 @@ all-samples-requires c κs =
 
 returns-2 : tie.Need-returns-2
 returns-2 c = λ e.
-    (λ v. absurd (true≢false (sym v ∙ c .before .if1 .left)), λ v. rw (c .before .before .active-offset .ensures) at (c .all-samples .ensures e))
+    record {
+      blank = λ v. absurd (true≢false (sym v ∙ c .before .if1 .left));
+      samples = λ v. rw (c .before .before .active-offset .ensures) at (c .all-samples .ensures e);
+    }
 
 pub active-well-spec : {M : Type 1} → statement M
 active-well-spec =

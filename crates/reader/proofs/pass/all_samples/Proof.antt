@@ -1,18 +1,20 @@
 -- `reader::pass::all_samples` meets its contract. The loop's invariant: while all is well, each word passed is a sample. Assumes nothing.
 use borrow.Author.Needs.{needs}
-use Prim.Native.Nat.{_-_, _≤_}
+use Prim.Native.Nat.{_+_, _-_, _≤_}
 use mathlib.Core.Path.{_≡_, sym, _∙_}
 use mathlib.Core.Bool.{true}
 use native.Mathlib.Omega.{arith}
+use lib.ListN.{getD}
 use Rattle.refusal.proofs.Cases.{not-true}
 use Rattle.line.specs.Samples.{activeLength}
-use Rattle.reader.specs.Passes.{Sampled}
-use Rattle.reader.proofs.Tests.{still-well, not-reserved}
+use Rattle.line.specs.Parts.{Sampled}
+use Rattle.line.proofs.Faults.{not-reserved}
+use Rattle.line.proofs.Passes.{still-well}
 use Rattle.reader.proofs.pass.all_samples.Statement.{statement}
 use Rattle.reader.proofs.pass.all_samples.Tie as tie
 
 abbrev Inv-loop : tie.InvT-loop
-Inv-loop words from well₀ k₀ well k = (k ≤ activeLength) × (well ≡ true → Sampled words from k)
+Inv-loop words from well₀ k₀ well k = (k ≤ activeLength) × (well ≡ true → Sampled (λ j. getD words (from + j) 0) k)
 
 abbrev μ-loop : tie.MeasureT-loop
 μ-loop words from well₀ k₀ well k = activeLength - k

@@ -1,12 +1,16 @@
 -- `reader::pass::all_well` meets its contract: a line that it lets by is well part by part. Assumes nothing.
 use borrow.Author.Needs.{needs}
-use mathlib.Core.Path.{sym}
+use Prim.Native.Nat.{_+_}
+use mathlib.Core.Path.{_≡_, sym}
 use mathlib.Core.Bool.{true≢false}
 use native.Mathlib.Omega.{arith}
 use denote.Ref.{now}
+use lib.ListN.{getD}
+use Rattle.line.specs.Parts.{Proper}
 use Rattle.refusal.proofs.Cases.{not-false}
 use Rattle.system.proofs.Laws.{line-is-parts, sav-low}
-use Rattle.reader.proofs.Passes.{passed-well}
+use Rattle.line.specs.Fault.{faultAt}
+use Rattle.line.proofs.Parts.{parts-well, space-filled}
 use Rattle.reader.proofs.pass.all_well.Statement.{statement}
 use Rattle.reader.proofs.pass.all_well.Tie as tie
 
@@ -57,18 +61,22 @@ active-well-requires : tie.Need-active-well-requires
 active-well-requires c κs = search needs
 
 returns-6 : tie.Need-returns-6
+unfolding faultAt
 returns-6 c = λ e.
     let sav = c .before .before in
     let space = sav .before .before .before in
     let eav = space .before .before in
     let start = eav .before .before in
     let a = start .before .before .before .before .before .before .args in
-    passed-well (a .d) (now (a .words))
+    let proper : Proper (a .d .fill) = record { even = start .before .before .before .if1 .left; odd = start .before .if2 .left } in
+    parts-well (a .d) (λ i. getD (now (a .words)) i 0)
     (record {
-      even = start .before .before .before .if1 .left;
-      odd = start .before .if2 .left;
-      eav = rw (eav .before .flags .ensures) at (eav .code-well .ensures (not-false (eav .code-well .result) (space .before .if3 .left)));
-      space = rw (start .sav-offset .ensures) at (space .filled .ensures (not-false (space .filled .result) (sav .before .before .if4 .left)));
+      fill = proper;
+      eav = λ k l.
+          let start : 0 + k ≡ k = omega arith in
+          rw start at (rw (eav .before .flags .ensures) at (eav .code-well .ensures (not-false (eav .code-well .result) (space .before .if3 .left)) k l));
+      space = space-filled (a .d) (λ i. getD (now (a .words)) i 0) proper
+          (rw (start .sav-offset .ensures) at (space .filled .ensures (not-false (space .filled .result) (sav .before .before .if4 .left))));
       sav =
           rw (start .sav-offset .ensures, sav .before .flags2 .ensures) at (sav .code-well2 .ensures (not-false (sav .code-well2 .result) (c .before .if5 .left)));
       active = c .active-well .ensures e;

@@ -8,7 +8,7 @@ use denote.Ref.{now}
 use lib.Dec.{eqb}
 use lib.ListN.{getD}
 use borrow.Author.Tests.{eqb-true}
-use Rattle.line.specs.Due.{codeAt}
+use Rattle.line.specs.Offsets.{codeAt}
 use Rattle.line.specs.Fault.{faultWhere}
 use Rattle.refusal.proofs.Cases.{and-true}
 use Rattle.reader.proofs.pass.code_well.Statement.{statement}

@@ -6,8 +6,8 @@ use native.Mathlib.Omega.{arith}
 use denote.Ref.{now}
 use lib.ListN.{length, getD, set, length-set}
 use Rattle.line.specs.Samples.{yLength, cLength}
-use Rattle.line.proofs.Tabs.{is-tab}
-use Rattle.line.proofs.Stores.{store-more}
+use Rattle.words.proofs.Tabs.{is-tab}
+use Rattle.words.proofs.Stores.{store-more}
 use Rattle.reader.proofs.take.take.Statement.{statement}
 use Rattle.reader.proofs.take.take.Tie as tie
 

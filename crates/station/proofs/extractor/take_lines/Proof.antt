@@ -1,6 +1,5 @@
--- `station::extractor::take_lines` is safe and ends: the turns count down. Assumes nothing.
-use borrow.Author.Needs.{needs}
-use mathlib.Core.Path.{_≡_}
+-- `station::extractor::take_lines` is safe and ends: the turns count down, and what is lent keeps its length. Assumes nothing.
+use mathlib.Core.Path.{_≡_, refl, _∙_}
 use lib.ListN.{length}
 use Rattle.station.proofs.extractor.take_lines.Statement.{statement}
 use Rattle.station.proofs.extractor.take_lines.Tie as tie
@@ -12,55 +11,40 @@ abbrev μ-loop : tie.MeasureT-loop
 μ-loop input line₀ row₀ is-shown at₀ turns₀ line row at turns = turns
 
 is-shown-requires : tie.Need-is-shown-requires Inv-loop μ-loop
-is-shown-requires c κs = search needs
+is-shown-requires c κs = tt
 
 open-requires : tie.Need-open-requires Inv-loop μ-loop
-open-requires c κs = search needs
+open-requires c κs = tt
 
 loop-holds : tie.Need-loop-holds Inv-loop μ-loop
-loop-holds c = search needs
+loop-holds c = (refl, refl)
 
 take-line-requires : tie.Need-take-line-requires Inv-loop μ-loop
-take-line-requires c κs = search needs
+take-line-requires c κs = tt
 
-sub-turns : tie.Need-sub-turns Inv-loop μ-loop
-sub-turns c = search needs
+turns-left-requires : tie.Need-turns-left-requires Inv-loop μ-loop
+turns-left-requires c κs = c .before .before .before .before .before .before .before .loop-test .taken
 
-show-requires : tie.Need-show-requires Inv-loop μ-loop
-show-requires c κs = search needs
+show-turn-requires : tie.Need-show-turn-requires Inv-loop μ-loop
+show-turn-requires c κs = tt
 
 loop-less : tie.Need-loop-less Inv-loop μ-loop
-loop-less c = search needs
+loop-less c = c .before .before .turns-left .ensures
 
 loop-again : tie.Need-loop-again Inv-loop μ-loop
-loop-again c = search needs
+loop-again c = (c .before .before .before .before .before .before .line .given ∙ c .before .before .before .before .before .before .before .before .before .before .before .loop .inv .0, c .before .before .before .before .row .given ∙ c .before .before .before .before .before .before .before .before .before .before .before .loop .inv .1)
 
-loop-less-2 : tie.Need-loop-less-2 Inv-loop μ-loop
-loop-less-2 c = search needs
-
-loop-again-2 : tie.Need-loop-again-2 Inv-loop μ-loop
-loop-again-2 c = search needs
-
-end-show-requires : tie.Need-end-show-requires Inv-loop μ-loop
-end-show-requires c κs = search needs
+end-turns-requires : tie.Need-end-turns-requires Inv-loop μ-loop
+end-turns-requires c κs = tt
 
 same-length : tie.Need-same-length Inv-loop μ-loop
-same-length c = search needs
+same-length c = c .before .before .loop .inv .0
 
 same-length-2 : tie.Need-same-length-2 Inv-loop μ-loop
-same-length-2 c = search needs
+same-length-2 c = c .before .before .loop .inv .1
 
 returns : tie.Need-returns Inv-loop μ-loop
-returns c = search needs
-
-same-length-3 : tie.Need-same-length-3 Inv-loop μ-loop
-same-length-3 c = search needs
-
-same-length-4 : tie.Need-same-length-4 Inv-loop μ-loop
-same-length-4 c = search needs
-
-returns-2 : tie.Need-returns-2 Inv-loop μ-loop
-returns-2 c = search needs
+returns c = tt
 
 pub take-lines-spec : {M : Type 1} → statement M
 take-lines-spec =
@@ -72,16 +56,11 @@ take-lines-spec =
     open-requires
     loop-holds
     take-line-requires
-    sub-turns
-    show-requires
+    turns-left-requires
+    show-turn-requires
     loop-less
     loop-again
-    loop-less-2
-    loop-again-2
-    end-show-requires
+    end-turns-requires
     same-length
     same-length-2
-    returns
-    same-length-3
-    same-length-4
-    returns-2)
+    returns)

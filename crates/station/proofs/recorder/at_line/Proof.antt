@@ -1,18 +1,16 @@
 -- `station::recorder::at_line` meets its contract: the next recording's tape exactly where one begins. Assumes nothing.
-use borrow.Author.Needs.{needs}
 use mathlib.Core.Path.{_≡_, sym, ap, _∙_}
 use mathlib.Core.Bool.{Bool, true, false, cond}
-use Rattle.programme.specs.declared.tape.Tape.{Tape}
-use Rattle.programme.specs.Tape.{turnsAt, turnedOf, atLine}
+use Rattle.programme.specs.Tape.{turnsAt, turnedOf}
 use Rattle.station.specs.declared.recorder.Taping.{Taping}
 use Rattle.station.proofs.recorder.at_line.Statement.{statement}
 use Rattle.station.proofs.recorder.at_line.Tie as tie
 
 turns-requires : tie.Need-turns-requires
-turns-requires c κs = search needs
+turns-requires c κs = tt
 
 make-next-requires : tie.Need-make-next-requires
-make-next-requires c κs = search needs
+make-next-requires c κs = tt
 
 returns : tie.Need-returns
 returns c =
@@ -22,7 +20,7 @@ returns c =
     λ goes. c .make-next .ensures goes ∙ ap (λ (b : Bool). cond b (turnedOf tape) tape) turns
 
 open-requires : tie.Need-open-requires
-open-requires c κs = search needs
+open-requires c κs = tt
 
 returns-2 : tie.Need-returns-2
 returns-2 c =

@@ -1,20 +1,22 @@
 -- `station::recorder::fill_header` meets its contract: four bytes are those of two words. Assumes nothing.
 use borrow.Author.Needs.{needs}
 use Prim.Native.Nat.{ℕ}
-use mathlib.Core.Path.{_≡_, ap, _∙_}
+use mathlib.Core.Path.{_≡_, _∙_}
 use mathlib.Core.List.{List}
 use lib.ListN.{length}
 use Rattle.refusal.specs.declared.Refusal.{Refusal}
 use Rattle.confirmation.specs.Run.{headerLength}
-use Rattle.lent.specs.Bytes.{bytesOf, pairsRefusal, filledBy}
-use Rattle.lent.proofs.Bytes.{pairs-accepted}
+use Rattle.words.specs.Bytes.{bytesOf, pairsRefusal}
+use Rattle.refusal.specs.Answer.{writtenBy}
+use Rattle.refusal.proofs.Firsts.{same-number, written-accepted}
+use Rattle.words.proofs.Bytes.{pairs-accepted}
 use Rattle.station.proofs.recorder.fill_header.Statement.{statement}
 use Rattle.station.proofs.recorder.fill_header.Tie as tie
 
 header-filled : (r : Refusal) (words header after : List ℕ) → length header ≡ headerLength → r ≡ pairsRefusal (length header) 2
-    → after ≡ filledBy r (bytesOf words) header → after ≡ bytesOf words
+    → after ≡ writtenBy r (bytesOf words) header → after ≡ bytesOf words
 header-filled r words header after size e filled =
-    filled ∙ ap (λ (x : Refusal). filledBy x (bytesOf words) header) (e ∙ pairs-accepted (length header) 2 size)
+    filled ∙ written-accepted r (bytesOf words) header (same-number (e ∙ pairs-accepted (length header) 2 size))
 
 cast-t6 : tie.Need-cast-t6
 cast-t6 c = search needs
@@ -26,7 +28,7 @@ slice-aggregate-to-bytes : tie.Need-slice-aggregate-to-bytes
 slice-aggregate-to-bytes c = search needs
 
 to-bytes-requires : tie.Need-to-bytes-requires
-to-bytes-requires c κs = search needs
+to-bytes-requires c κs = tt
 
 same-length : tie.Need-same-length
 same-length c = search needs

@@ -14,23 +14,14 @@ ended-requires c κs = tt
 returns : tie.Need-returns
 returns c = not-done (c .ended .result) (c .ended .ensures)
 
-slice-aggregate-say-of : tie.Need-slice-aggregate-say-of
-slice-aggregate-say-of c = search needs
+slice-aggregate-unfit : tie.Need-slice-aggregate-unfit
+slice-aggregate-unfit c = search needs
 
-say-of-requires : tie.Need-say-of-requires
-say-of-requires c κs = tt
-
-slice-aggregate-write-all : tie.Need-slice-aggregate-write-all
-slice-aggregate-write-all c = search needs
-
-write-all-requires : tie.Need-write-all-requires
-write-all-requires c κs = tt
-
-ended-requires-2 : tie.Need-ended-requires-2
-ended-requires-2 c κs = tt
+unfit-requires : tie.Need-unfit-requires
+unfit-requires c κs = tt
 
 returns-2 : tie.Need-returns-2
-returns-2 c = not-done (c .ended2 .result) (c .ended2 .ensures)
+returns-2 c = not-done (c .unfit .result) (c .unfit .ensures)
 
 add-make : tie.Need-add-make
 add-make c = search needs
@@ -51,11 +42,8 @@ make-next-spec =
     close-requires
     ended-requires
     returns
-    slice-aggregate-say-of
-    say-of-requires
-    slice-aggregate-write-all
-    write-all-requires
-    ended-requires-2
+    slice-aggregate-unfit
+    unfit-requires
     returns-2
     add-make
     turned-requires

@@ -1,6 +1,5 @@
--- `station::recorder::take_rows` is safe and ends: the turns count down. Assumes nothing.
-use borrow.Author.Needs.{needs}
-use mathlib.Core.Path.{_≡_}
+-- `station::recorder::take_rows` is safe and ends: the turns count down, and what is lent keeps its length. Assumes nothing.
+use mathlib.Core.Path.{_≡_, refl, _∙_}
 use lib.ListN.{length}
 use Rattle.station.proofs.recorder.take_rows.Statement.{statement}
 use Rattle.station.proofs.recorder.take_rows.Tie as tie
@@ -15,49 +14,34 @@ is-shown-requires : tie.Need-is-shown-requires Inv-loop μ-loop
 is-shown-requires c κs = tt
 
 loop-holds : tie.Need-loop-holds Inv-loop μ-loop
-loop-holds c = search needs
+loop-holds c = (refl, refl)
 
 take-row-requires : tie.Need-take-row-requires Inv-loop μ-loop
 take-row-requires c κs = tt
 
-sub-turns : tie.Need-sub-turns Inv-loop μ-loop
-sub-turns c = search needs
+turns-left-requires : tie.Need-turns-left-requires Inv-loop μ-loop
+turns-left-requires c κs = c .before .before .before .before .before .before .before .loop-test .taken
 
-show-requires : tie.Need-show-requires Inv-loop μ-loop
-show-requires c κs = tt
+show-turn-requires : tie.Need-show-turn-requires Inv-loop μ-loop
+show-turn-requires c κs = tt
 
 loop-less : tie.Need-loop-less Inv-loop μ-loop
-loop-less c = search needs
+loop-less c = c .before .before .turns-left .ensures
 
 loop-again : tie.Need-loop-again Inv-loop μ-loop
-loop-again c = search needs
+loop-again c = (c .before .before .before .before .before .before .row .given ∙ c .before .before .before .before .before .before .before .before .before .before .before .loop .inv .0, c .before .before .before .before .line .given ∙ c .before .before .before .before .before .before .before .before .before .before .before .loop .inv .1)
 
-loop-less-2 : tie.Need-loop-less-2 Inv-loop μ-loop
-loop-less-2 c = search needs
-
-loop-again-2 : tie.Need-loop-again-2 Inv-loop μ-loop
-loop-again-2 c = search needs
-
-end-show-requires : tie.Need-end-show-requires Inv-loop μ-loop
-end-show-requires c κs = tt
+end-turns-requires : tie.Need-end-turns-requires Inv-loop μ-loop
+end-turns-requires c κs = tt
 
 same-length : tie.Need-same-length Inv-loop μ-loop
-same-length c = search needs
+same-length c = c .before .before .loop .inv .0
 
 same-length-2 : tie.Need-same-length-2 Inv-loop μ-loop
-same-length-2 c = search needs
+same-length-2 c = c .before .before .loop .inv .1
 
 returns : tie.Need-returns Inv-loop μ-loop
-returns c = search needs
-
-same-length-3 : tie.Need-same-length-3 Inv-loop μ-loop
-same-length-3 c = search needs
-
-same-length-4 : tie.Need-same-length-4 Inv-loop μ-loop
-same-length-4 c = search needs
-
-returns-2 : tie.Need-returns-2 Inv-loop μ-loop
-returns-2 c = search needs
+returns c = tt
 
 pub take-rows-spec : {M : Type 1} → statement M
 take-rows-spec =
@@ -68,16 +52,11 @@ take-rows-spec =
     is-shown-requires
     loop-holds
     take-row-requires
-    sub-turns
-    show-requires
+    turns-left-requires
+    show-turn-requires
     loop-less
     loop-again
-    loop-less-2
-    loop-again-2
-    end-show-requires
+    end-turns-requires
     same-length
     same-length-2
-    returns
-    same-length-3
-    same-length-4
-    returns-2)
+    returns)

@@ -11,14 +11,14 @@ use Rattle.station.proofs.recorder.turned.Statement.{statement}
 use Rattle.station.proofs.recorder.turned.Tie as tie
 
 ended-requires : tie.Need-ended-requires
-ended-requires c κs = search needs
+ended-requires c κs = tt
 
 returns : tie.Need-returns
 returns c =
     (λ failed. c .ended .ensures, (λ read. absurd (true≢false (sym (c .before .if1 .taken) ∙ read)), not-done (c .ended .result) (c .ended .ensures)))
 
 end-frame-requires : tie.Need-end-frame-requires
-end-frame-requires c κs = search needs
+end-frame-requires c κs = tt
 
 same-length : tie.Need-same-length
 same-length c = search needs
@@ -41,7 +41,7 @@ part-put-row-end : tie.Need-part-put-row-end
 part-put-row-end c = search needs
 
 put-row-requires : tie.Need-put-row-requires
-put-row-requires c κs = search needs
+put-row-requires c κs = tt
 
 same-length-2 : tie.Need-same-length-2
 same-length-2 c = search needs

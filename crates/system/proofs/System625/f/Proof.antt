@@ -1,6 +1,5 @@
 -- `system::System625::f` meets its contract: its one range. Assumes nothing.
 use borrow.Author.Needs.{needs}
-use mathlib.Core.Path.{_∙_}
 use Rattle.system.specs.Figures.{fOf}
 use Rattle.system.proofs.System625.f.Statement.{statement}
 use Rattle.system.proofs.System625.f.Tie as tie

@@ -1,5 +1,4 @@
 -- `programme::Tape::begin` meets its contract: a fresh walk, or its refusal. Assumes nothing.
-use borrow.Author.Needs.{needs}
 use Rattle.programme.specs.Tape.{begunTape}
 use Rattle.programme.proofs.tape.Tape.begin.Statement.{statement}
 use Rattle.programme.proofs.tape.Tape.begin.Tie as tie

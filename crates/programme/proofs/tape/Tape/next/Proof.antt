@@ -5,7 +5,7 @@ use mathlib.Core.Path.{_≡_, ap}
 use mathlib.Core.List.{List}
 use lib.ListN.{length}
 use borrow.Author.Tests.{eq-eqb, ne-eqb}
-use Rattle.reader.specs.declared.Judgement.{Judgement}
+use Rattle.system.specs.declared.walk.Judgement.{Judgement}
 use Rattle.programme.specs.declared.tape.Tape.{Tape}
 use Rattle.programme.specs.Record.{recordedOf, lineBytesAfter}
 use Rattle.programme.specs.Tape.{tapedOf, lineTaped}

@@ -1,5 +1,4 @@
 -- `programme::Tape::turned` meets its contract: a fresh walk from the awaited line on. Assumes nothing.
-use borrow.Author.Needs.{needs}
 use Rattle.programme.specs.Tape.{turnedOf}
 use Rattle.programme.proofs.tape.Tape.turned.Statement.{statement}
 use Rattle.programme.proofs.tape.Tape.turned.Tie as tie

@@ -1,0 +1,109 @@
+-- What the judgement of a line's bytes is, refusal by refusal, and where the fast pass finds it well. Assumes nothing.
+use Prim.Native.Nat.{ℕ, _+_, _*_, _<_, _≤_}
+use mathlib.Core.Path.{_≡_, refl, sym, ap, _∙_}
+use mathlib.Core.List.{List}
+use native.Mathlib.Omega.{arith}
+use lib.ListN.{length}
+use Rattle.refusal.specs.declared.Refusal.{Refusal}
+use Rattle.refusal.specs.Numbers.{wrongLength}
+use Rattle.refusal.specs.Answer.{none}
+use Rattle.refusal.proofs.Firsts.{first-none, same-number}
+use Rattle.words.specs.Bytes.{wordOfBytes, wordsOf}
+use Rattle.words.proofs.Bytes.{words-length, word-at}
+use Rattle.timing.specs.declared.Report.{Report}
+use Rattle.timing.specs.Report.{codeReportOf}
+use Rattle.system.specs.declared.System.{System}
+use Rattle.system.specs.declared.due.Due.{Due}
+use Rattle.system.specs.declared.walk.Walk.{Walk}
+use Rattle.system.specs.Figures.{savOffset, lineLength, systemOf}
+use Rattle.system.specs.Due.{dueOf}
+use Rattle.system.specs.Walk.{walkRefusal, standingRefusal, lineBytes, dueBy, dueIn}
+use Rattle.system.specs.Judgement.{refusedAt, movedAt}
+use Rattle.system.proofs.Laws.{line-is-parts, due-system, standing-walk, standing-length, accepted-stood}
+use Rattle.line.specs.Fault.{faultAt, wordRefusal}
+use Rattle.line.specs.Parts.{Proper}
+use Rattle.reader.specs.Judge.{reportOf}
+use Rattle.reader.proofs.Judged.{line-standing, line-words, judged-refused, judged-moved}
+use Rattle.bytewise.specs.declared.pass.Codes.{Codes}
+use Rattle.bytewise.specs.Bytes.{judgedBytes}
+use Rattle.bytewise.specs.Passes.{LineBytes, Corrected, LineWell}
+
+-- fill is of ten bits at every walk
+proper : (w : Walk) (fourth : ℕ) → Proper (dueBy w fourth .fill)
+unfolding dueBy dueOf
+proper w fourth = record { even = omega arith; odd = omega arith }
+
+module _ (w : Walk) (bytes : List ℕ) where
+  abbrev standing : Refusal
+  standing = standingRefusal w (length bytes) (lineBytes w)
+
+  -- the line is refused before its words are looked at
+  pub judged-standing : (standing .number ≡ 0 → ⊥) → judgedBytes w bytes ≡ refusedAt w standing
+  judged-standing n =
+      judged-refused (length bytes) (lineBytes w) none w (wordsOf bytes) standing (line-standing (length bytes) (lineBytes w) none w (wordsOf bytes) n) n
+
+  -- by the walk, or by its length
+  pub judged-walk : (walkRefusal w .number ≡ 0 → ⊥) → judgedBytes w bytes ≡ refusedAt w (walkRefusal w)
+  judged-walk n =
+      let e = standing-walk w (length bytes) (lineBytes w) n in
+      judged-standing (λ z. n (sym (same-number e) ∙ z)) ∙ ap (refusedAt w) e
+
+  pub judged-count : walkRefusal w .number ≡ 0 → (length bytes ≡ lineBytes w → ⊥)
+      → judgedBytes w bytes ≡ refusedAt w (record { number = wrongLength; place = 0 })
+  judged-count stands n =
+      let e = standing-length w (length bytes) (lineBytes w) stands n in
+      judged-standing (λ z. never (sym (same-number e) ∙ z)) ∙ ap (refusedAt w) e
+    where
+      never : _≡_ {A = ℕ} wrongLength 0 → ⊥
+      never q = omega arith
+
+  -- past that, what is due in it
+  module _ (stands : standing .number ≡ 0) where
+    pub whole : length bytes ≡ lineBytes w
+    whole = accepted-stood w (length bytes) (lineBytes w) stands .size
+
+    pub fourth-bytes : 8 ≤ length bytes
+    fourth-bytes = omega (arith, whole, line-is-parts (systemOf (w .system)))
+
+    module _ (d : Due) (fourth : ℕ) (is-fourth : fourth ≡ wordOfBytes bytes 6) (is-due : d ≡ dueBy w fourth) where
+      in-line : d ≡ dueIn w (wordsOf bytes)
+      in-line =
+          is-due ∙ ap (dueBy w) (is-fourth ∙ sym (word-at bytes (lineLength (systemOf (w .system))) whole 3 (omega (arith, line-is-parts (systemOf (w .system))))))
+
+      of-system : d .system ≡ systemOf (w .system)
+      of-system = ap (λ (x : Due). x .system) is-due ∙ due-system w fourth
+
+      pub line-bytes : LineBytes d bytes
+      line-bytes =
+          record {
+            fill = rw is-due (proper w fourth);
+            size = whole ∙ ap (λ (s : System). 2 * lineLength s) (sym of-system);
+          }
+
+      -- the fast pass found the line well
+      module _ (codes : Codes) where
+        no-fault : LineWell d bytes → wordRefusal (dueIn w (wordsOf bytes)) (wordsOf bytes) ≡ none
+        unfolding wordRefusal faultAt
+        no-fault well =
+            let size = line-bytes .size in
+            rw (← in-line)
+            (first-none (faultAt d (wordsOf bytes)) (length (wordsOf bytes)) (λ j l.
+            let m : j < lineLength (d .system) = omega (arith, words-length bytes _ size) in
+            rw (word-at bytes _ size j m) (well j m)))
+
+        reported : Corrected d bytes codes
+            → record { eav = codeReportOf (codes .eav); sav = codeReportOf (codes .sav) } ≡ reportOf (dueIn w (wordsOf bytes)) (wordsOf bytes)
+        unfolding reportOf
+        reported told =
+            let size = line-bytes .size in
+            let parts = line-is-parts (d .system) in
+            let s : ℕ = savOffset (d .system) in
+            let e : 2 * (s + 3) ≡ 2 * s + 6 = omega arith in
+            rw (← in-line, word-at bytes _ size 3 (omega arith), word-at bytes _ size (s + 3) (omega arith), e, told .eav, told .sav)
+
+        pub judged-well : (report : Report) → report ≡ record { eav = codeReportOf (codes .eav); sav = codeReportOf (codes .sav) }
+            → Corrected d bytes codes → LineWell d bytes → judgedBytes w bytes ≡ movedAt w d report
+        judged-well report e told well =
+            judged-moved (length bytes) (lineBytes w) none w (wordsOf bytes)
+            (same-number (line-words (length bytes) (lineBytes w) none w (wordsOf bytes) stands refl ∙ no-fault well))
+            ∙ rw (e ∙ reported told, in-line)

@@ -1,0 +1,4 @@
+mod Keys
+mod Parts
+pub mod Theorems
+pub mod Judged

@@ -1,0 +1,58 @@
+-- Document 01, "Refusal numbers": each number by the words of its row. What a number means is said here and nowhere else.
+use Prim.Native.Nat.{ℕ}
+
+-- no number of this document, or of one that follows it, is as large
+abbrev pub numberBound : ℕ
+numberBound = 256
+
+-- "system is neither 525 nor 625"
+abbrev pub noSystem : ℕ
+noSystem = 1
+
+-- "line number outside 1 to 525, or 1 to 625"
+abbrev pub noLine : ℕ
+noLine = 2
+
+-- "a slice has the wrong length"
+abbrev pub wrongLength : ℕ
+wrongLength = 3
+
+-- "lines read is 10,000,000 or more, or repairs exceed twice lines read"
+abbrev pub badCounts : ℕ
+badCounts = 4
+
+-- "a word over 1023"
+abbrev pub overTen : ℕ
+overTen = 5
+
+-- "one of the first three words of a timing code is wrong"
+abbrev pub noCode : ℕ
+noCode = 6
+
+-- "bit 9 of a fourth word is 0"
+abbrev pub bitNine : ℕ
+bitNine = 7
+
+-- "seven bits with no legal pattern within one bit"
+abbrev pub beyondCorrection : ℕ
+beyondCorrection = 8
+
+-- "the corrected F, V, H are not those due here"
+abbrev pub notDue : ℕ
+notDue = 9
+
+-- "fill is due and is not there"
+abbrev pub noFill : ℕ
+noFill = 10
+
+-- "a reserved word where a sample is due"
+abbrev pub reserved : ℕ
+reserved = 11
+
+-- "sample to be written is outside 4 to 1019"
+abbrev pub outside : ℕ
+outside = 12
+
+-- "serial state: scrambled bits over 511 or last bit over 1"
+abbrev pub badState : ℕ
+badState = 13

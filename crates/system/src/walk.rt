@@ -1,0 +1,198 @@
+// The walk over consecutive lines: what it holds, what it refuses, what is due at it, and where it moves; and the answer to a line.
+ghost use mathlib.Core.Path.{_≡_};
+ghost use Prim.Native.Nat.{_*_, _≤_};
+ghost use Rattle.timing.specs.Report.{repairsIn, repairsOf};
+ghost use Rattle.system.specs.declared.System.the-variants.{Lines625};
+ghost use Rattle.system.specs.Figures.{lineLength};
+ghost use Rattle.system.specs.Walk.{walkRefusal, standingRefusal, freshOf, dueBy, lineWords, lineBytes, movedOf};
+ghost use Rattle.system.specs.Judgement.{refusedAt, movedAt};
+use crate::Due;
+use crate::named_refusal;
+use crate::system_of;
+use refusal::Number;
+use refusal::Refusal;
+use std::num::wrapping_add_u32;
+use timing::CodeReport;
+use timing::Report;
+
+// Where a reader of consecutive lines stands: the system's number, the awaited line, and what was counted so far.
+pub struct Walk {
+    pub system: u32,
+    pub line: u32,
+    pub lines: u32,
+    pub repairs: u32,
+}
+
+// The answer to a fresh walk: a refusal returns a walk all zero.
+pub struct Fresh {
+    pub number: u32,
+    pub place: usize,
+    pub walk: Walk,
+}
+
+// A fresh walk of any system from any line: 1, 2.
+pub fn fresh_walk(system: u32, start: u32) -> Fresh
+    ensures { λ r. ⌜ r ≡ freshOf system start ⌝ }
+{
+    let refusal = named_refusal(system, start);
+    if refusal.number != 0 {
+        return Fresh {
+            number: refusal.number,
+            place: 0,
+            walk: Walk::of(0, 0, 0, 0),
+        };
+    }
+    Fresh {
+        number: 0,
+        place: 0,
+        walk: Walk::of(system, start, 0, 0),
+    }
+}
+
+fn repairs_in(report: CodeReport) -> u32
+    ensures { λ r. ⌜ (r ≡ repairsIn report) × (r ≤ 1) ⌝ }
+{
+    match report {
+        CodeReport::Clean => 0,
+        CodeReport::Repaired { bit } => 1,
+    }
+}
+
+// The codes that a report tells as repaired: 0 to 2.
+pub fn repairs(report: Report) -> u32
+    ensures { λ r. ⌜ r ≡ repairsOf report ⌝ }
+{
+    let eav = report.eav;
+    let sav = report.sav;
+    repairs_in(eav) + repairs_in(sav)
+}
+
+impl Walk {
+    pub const MOST_LINES: u32 = 10_000_000;
+
+    // The walk that holds these numbers.
+    pub fn of(system: u32, line: u32, lines: u32, repairs: u32) -> Walk
+        ensures { λ r. ⌜ r ≡ record { system = system; line = line; lines = lines; repairs = repairs } ⌝ }
+    {
+        Walk {
+            system,
+            line,
+            lines,
+            repairs,
+        }
+    }
+
+    // What refuses every line at this walk: 1, 2, 4.
+    pub fn refusal(self) -> Refusal
+        ensures { λ r. ⌜ r ≡ walkRefusal self ⌝ }
+    {
+        let named = named_refusal(self.system, self.line);
+        if named.number != 0 {
+            return named;
+        }
+        let bad_counts = Refusal {
+            number: Number::BAD_COUNTS,
+            place: 0,
+        };
+        if Self::MOST_LINES <= self.lines {
+            return bad_counts;
+        }
+        if 2 * self.lines < self.repairs {
+            return bad_counts;
+        }
+        Refusal::NONE
+    }
+
+    // What refuses the awaited line before its words are looked at: the walk's refusals, then 3 at 0 where not so many are given as are due.
+    pub fn standing(self, given: usize, due: usize) -> Refusal
+        ensures { λ r. ⌜ r ≡ standingRefusal self given due ⌝ }
+    {
+        let refusal = self.refusal();
+        if refusal.number != 0 {
+            return refusal;
+        }
+        if given != due {
+            return Refusal {
+                number: Number::WRONG_LENGTH,
+                place: 0,
+            };
+        }
+        Refusal::NONE
+    }
+
+    // The words of the awaited line.
+    pub fn line_words(self) -> usize
+        ensures { λ r. ⌜ r ≡ lineWords self ⌝ }
+    {
+        system_of(self.system).line_length()
+    }
+
+    // The bytes of the awaited line, two for each word: at most those of the longer line.
+    pub fn line_bytes(self) -> usize
+        ensures bytes { λ r. ⌜ r ≡ lineBytes self ⌝ }
+        ensures most { λ r. ⌜ r ≤ 2 * lineLength Lines625 ⌝ }
+    {
+        2 * self.line_words()
+    }
+
+    // What is due in the line that is lent at this walk, by the fourth word of its EAV, for all who read. Here the awaited line's number alone
+    // decides.
+    pub fn due(self, fourth: u16) -> Due
+        ensures { λ r. ⌜ r ≡ dueBy self fourth ⌝ }
+    {
+        Due::of(system_of(self.system), self.line)
+    }
+
+    // The walk after an accepted line in which this was due, with this report. Counts are of 32 bits: a walk that refuses no line has room.
+    pub fn moved(self, due: Due, report: Report) -> Walk
+        ensures { λ r. ⌜ r ≡ movedOf self due report ⌝ }
+    {
+        let system = due.system;
+        let next = system.next_line(self.line);
+        let count = repairs(report);
+        Walk::of(
+            self.system,
+            next,
+            wrapping_add_u32(self.lines, 1),
+            wrapping_add_u32(self.repairs, count),
+        )
+    }
+}
+
+// The answer to a line: its number and place, what is told of its two codes, and the walk after it.
+pub struct Judgement {
+    pub number: u32,
+    pub place: usize,
+    pub report: Report,
+    pub walk: Walk,
+}
+
+impl Judgement {
+    // The answer to a refused line: the walk stands and both codes are told as clean.
+    pub fn refused(walk: Walk, refusal: Refusal) -> Judgement
+        ensures { λ r. ⌜ r ≡ refusedAt walk refusal ⌝ }
+    {
+        let clean = Report {
+            eav: CodeReport::Clean,
+            sav: CodeReport::Clean,
+        };
+        Judgement {
+            number: refusal.number,
+            place: refusal.place,
+            report: clean,
+            walk,
+        }
+    }
+
+    // The answer to an accepted line in which this was due, with this report.
+    pub fn accepted(walk: Walk, due: Due, report: Report) -> Judgement
+        ensures { λ r. ⌜ r ≡ movedAt walk due report ⌝ }
+    {
+        Judgement {
+            number: 0,
+            place: 0,
+            report,
+            walk: walk.moved(due, report),
+        }
+    }
+}

@@ -1,0 +1,5 @@
+pub mod Tabs
+pub mod Stores
+pub mod Over
+pub mod Bytes
+pub mod Theorems

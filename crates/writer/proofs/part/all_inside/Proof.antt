@@ -1,0 +1,64 @@
+-- `writer::part::all_inside` meets its contract. The loop's invariant: while all is well, each word passed is a sample. Assumes nothing.
+use borrow.Author.Needs.{needs}
+use Prim.Native.Nat.{_-_, _≤_}
+use mathlib.Core.Path.{_≡_, sym, _∙_}
+use mathlib.Core.Bool.{true}
+use native.Mathlib.Omega.{arith}
+use lib.ListN.{getD}
+use Rattle.refusal.proofs.Cases.{not-true}
+use Rattle.line.specs.Parts.{Sampled}
+use Rattle.line.specs.Samples.{activeLength}
+use Rattle.line.proofs.Faults.{not-reserved}
+use Rattle.line.proofs.Passes.{still-well}
+use Rattle.writer.proofs.part.all_inside.Statement.{statement}
+use Rattle.writer.proofs.part.all_inside.Tie as tie
+
+abbrev Inv-loop : tie.InvT-loop
+Inv-loop part well₀ k₀ well k = (k ≤ activeLength) × (well ≡ true → Sampled (λ j. getD part j 0) k)
+
+abbrev μ-loop : tie.MeasureT-loop
+μ-loop part well₀ k₀ well k = activeLength - k
+
+loop-holds : tie.Need-loop-holds Inv-loop μ-loop
+loop-holds c = (omega arith, λ e j l. absurd (omega arith))
+
+mul-reserved : tie.Need-mul-reserved Inv-loop μ-loop
+mul-reserved c = search needs
+
+shared-slice-read-reserved : tie.Need-shared-slice-read-reserved Inv-loop μ-loop
+shared-slice-read-reserved c = search needs
+
+reserved-requires : tie.Need-reserved-requires Inv-loop μ-loop
+reserved-requires c κs = search needs
+
+add-k : tie.Need-add-k Inv-loop μ-loop
+add-k c = search needs
+
+loop-less : tie.Need-loop-less Inv-loop μ-loop
+loop-less c = search needs
+
+loop-again : tie.Need-loop-again Inv-loop μ-loop
+loop-again c =
+    let at = c .before .before .before in (
+      omega arith,
+      still-well _ (at .loop .well) _ (at .loop .k) (at .loop .inv .1)
+          (λ t. not-reserved _ (sym (c .reserved .ensures) ∙ not-true (c .reserved .result) t)),
+    )
+
+returns : tie.Need-returns Inv-loop μ-loop
+returns c = λ e j l. c .before .loop .inv .1 e j (omega arith)
+
+pub all-inside-spec : {M : Type 1} → statement M
+all-inside-spec =
+    tie.close
+    (tie.spec
+    Inv-loop
+    μ-loop
+    loop-holds
+    mul-reserved
+    shared-slice-read-reserved
+    reserved-requires
+    add-k
+    loop-less
+    loop-again
+    returns)
