@@ -10,8 +10,10 @@
 #include <time.h>
 
 uint32_t speed_judge(uint32_t system, uint32_t line, const uint16_t *words, size_t count);
-uint32_t speed_read(uint32_t system, uint32_t line, const uint16_t *words, size_t count, uint16_t *y, size_t ys, uint16_t *cb,
+uint32_t speed_take(uint32_t system, uint32_t line, const uint16_t *words, size_t count, uint16_t *y, size_t ys, uint16_t *cb,
                     size_t cbs, uint16_t *cr, size_t crs);
+uint32_t speed_in_turn(uint32_t system, uint32_t line, const uint16_t *words, size_t count, uint16_t *y, size_t ys, uint16_t *cb,
+                       size_t cbs, uint16_t *cr, size_t crs);
 uint32_t speed_write(uint32_t system, uint32_t line, const uint16_t *y, size_t ys, const uint16_t *cb, size_t cbs,
                      const uint16_t *cr, size_t crs, uint16_t *words, size_t count);
 uint32_t speed_code(const uint16_t *words, size_t count, uint16_t *out, size_t room);
@@ -127,26 +129,34 @@ OVER_LINES(plain_c, plain_judge(now, line, words))
 OVER_LINES(two_pass_c, two_pass_judge(now, line, words))
 OVER_LINES(judge_words, speed_judge(now->system, line, words, now->words))
 OVER_LINES(judge_bytes, fiskrogn_judge(now->system, line, 0, 0, (const uint8_t *)words, 2 * now->words))
-OVER_LINES(read_lines, speed_read(now->system, line, words, now->words, y, Y_SAMPLES, cb, C_SAMPLES, cr, C_SAMPLES))
+OVER_LINES(take_lines, speed_take(now->system, line, words, now->words, y, Y_SAMPLES, cb, C_SAMPLES, cr, C_SAMPLES))
+OVER_LINES(in_turn, speed_in_turn(now->system, line, words, now->words, y, Y_SAMPLES, cb, C_SAMPLES, cr, C_SAMPLES))
 OVER_LINES(write_lines, speed_write(now->system, line, y, Y_SAMPLES, cb, C_SAMPLES, cr, C_SAMPLES, target + (words - store), now->words))
 
-/* ---- what is compared before it is timed: lines are written as C writes them, judged as C judges them, and read as what was written */
+/* ---- what is compared before it is timed: lines are written as C writes them, judged as C judges them, and taken as what was written */
 static void fill_store(void) {
     draw_samples();
     for (size_t k = 0; k < count; k++) plain_write(now, number_of(k), store + k * now->words);
 }
 
-static void compare_line(const System *s, uint32_t line, const uint16_t *words) {
-    uint16_t y_read[Y_SAMPLES] = {0}, cb_read[C_SAMPLES] = {0}, cr_read[C_SAMPLES] = {0};
+typedef uint32_t Taking(uint32_t, uint32_t, const uint16_t *, size_t, uint16_t *, size_t, uint16_t *, size_t, uint16_t *, size_t);
+
+static void compare_taken(Taking *taking, const System *s, uint32_t line, const uint16_t *words, uint32_t number) {
+    uint16_t y_taken[Y_SAMPLES] = {0}, cb_taken[C_SAMPLES] = {0}, cr_taken[C_SAMPLES] = {0};
     int samples = !is_blank(s, line);
+    check(taking(s->system, line, words, s->words, y_taken, Y_SAMPLES, cb_taken, C_SAMPLES, cr_taken, C_SAMPLES) == number,
+          "lines are taken as C judges them");
+    for (size_t i = 0; i < Y_SAMPLES; i++) check(y_taken[i] == samples * y[i], "Y is what C wrote");
+    for (size_t i = 0; i < C_SAMPLES; i++) check(cb_taken[i] == samples * cb[i] && cr_taken[i] == samples * cr[i], "CB and CR are what C wrote");
+}
+
+static void compare_line(const System *s, uint32_t line, const uint16_t *words) {
     uint32_t number = plain_judge(s, line, words);
     check(number == 0 && two_pass_judge(s, line, words) == number, "C judges its own lines");
     check(speed_judge(s->system, line, words, s->words) == number, "words are judged as C judges them");
     check(fiskrogn_judge(s->system, line, 0, 0, (const uint8_t *)words, 2 * s->words) == number, "bytes are judged as C judges them");
-    check(speed_read(s->system, line, words, s->words, y_read, Y_SAMPLES, cb_read, C_SAMPLES, cr_read, C_SAMPLES) == number,
-          "lines are read as C judges them");
-    for (size_t i = 0; i < Y_SAMPLES; i++) check(y_read[i] == samples * y[i], "Y is what C wrote");
-    for (size_t i = 0; i < C_SAMPLES; i++) check(cb_read[i] == samples * cb[i] && cr_read[i] == samples * cr[i], "CB and CR are what C wrote");
+    compare_taken(speed_take, s, line, words, number);
+    compare_taken(speed_in_turn, s, line, words, number);
 }
 
 static void compare_lines(void) {
@@ -247,8 +257,8 @@ static void lines_table(const System *s, size_t mib) {
     fill_store();
     compare_lines();
     Row rows[] = {{"memcpy", copy, 0},         {"plain C, first fault", plain_c, 0}, {"C in two passes", two_pass_c, 0},
-                  {"judge words", judge_words, 0}, {"judge bytes", judge_bytes, 0},      {"read", read_lines, 0},
-                  {"write", write_lines, 0}};
+                  {"judge words", judge_words, 0}, {"judge bytes", judge_bytes, 0},      {"take", take_lines, 0},
+                  {"judge, then take", in_turn, 0}, {"write", write_lines, 0}};
     size_t n = sizeof rows / sizeof *rows;
     measure(rows, n, 1);
     printf("%u lines            of memcpy   times plain C\n", s->system);

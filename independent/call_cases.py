@@ -414,14 +414,16 @@ def recorded_lengths(source):
     rows = (ROW_BYTES, 0, 1, ROW_BYTES - 1, ROW_BYTES + 1, 2 * ROW_BYTES)
     for system, line in chosen_lines():
         words = source.written(system, line)
+        spoilt = pack_slice(changed(words, {len(words) - 1: 1024}))
         lengths = [2 * length for length in word_lengths(system)] + [1, 2 * len(words) - 1]
         for row_size, size in product(rows, lengths):
             walk = source.walk(system, line)
             good_row, good_line = row_of(source.picture()) * 2, pack_slice(words) * 2
             row, data = good_row[:row_size], good_line[:size]
             yield from recordings_in(source, walk, row, source.junk_bytes(size))
-            yield protocol.EXTRACT, (walk, data, source.junk_bytes(row_size))
-            yield protocol.EXTRACT_NEXT, (run_at(walk), data, source.junk_bytes(row_size))
+            for offered in (data, spoilt):
+                yield protocol.EXTRACT, (walk, offered, source.junk_bytes(row_size))
+                yield protocol.EXTRACT_NEXT, (run_at(walk), offered, source.junk_bytes(row_size))
 
 
 def pieces_of_programmes(source):

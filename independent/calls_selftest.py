@@ -175,7 +175,8 @@ def programme_calls():
     yield "line short", tapes.record(walk, b"", b"")[:2], (3, 0)
     yield "row short", tapes.record(walk, b"", bytes(3456))[:2], (3, 1)
     yield "counted out", tapes.record(COUNTED_OUT, b"", b"")[:2], (4, 0)
-    yield "no room", tapes.extract(walk, bytes(3456), b"")[:2], (3, 1)
+    yield "no room", tapes.extract(walk, line, b""), (3, 1, CLEAN_REPORT, walk, b"")
+    yield "a word before no room", tapes.extract(walk, bytes(3456), b"")[:2], (6, 0)
     for walk, answers in (
         (Walk(625, 22, 0, 0), (0, 0)), (Walk(625, 22, 1, 0), (0, 1)), (Walk(625, 1, 9, 0), (0, 0)),
         (Walk(625, 23, 1, 0), (1, 0)), (Walk(0, 20, 1, 0), (0, 1)), (Walk(525, 20, 1, 0), (1, 0)),

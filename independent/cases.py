@@ -20,7 +20,8 @@ from independent.protocol import (
     CORRECT,
     DECODE,
     FRESH,
-    READ,
+    JUDGE,
+    TAKE,
     WRITE,
     Case,
     pack_slice,
@@ -50,8 +51,9 @@ def bytewise(walk, data):
 
 
 def readings(source, walk, words):
-    """One line through reader, active part and byte judge."""
-    yield READ, (walk, words, *source.junk_buffers())
+    """One line judged, taken, as its active part and by the byte judge."""
+    yield JUDGE, (walk, words)
+    yield TAKE, (walk, words, *source.junk_buffers())
     yield ACTIVE, (walk, words)
     yield bytewise(walk, pack_slice(words))
 
@@ -155,7 +157,7 @@ def every_offset(source):
     for walk, offset, over, wrong in every_offset_spoilt(source):
         yield bytewise(walk, pack_slice(over))
         yield bytewise(walk, pack_slice(wrong))
-        yield READ, (walk, wrong if offset % 2 else over, *source.junk_buffers())
+        yield TAKE, (walk, wrong if offset % 2 else over, *source.junk_buffers())
         yield ACTIVE, (walk, over if offset % 2 else wrong)
 
 
@@ -241,13 +243,14 @@ def shifted_lines(source):
 
 
 def wrong_slices(source):
-    """Clean lines in slices of all lengths, to be read and to be written."""
+    """Clean and spoilt lines in slices of all lengths, to be taken, and samples to be written."""
     for system, line in of_both(plain_and_blank_line):
         clean = source.written(system, line)
+        spoilt = changed(clean, {len(clean) - 1: 1024})
         for length, *sizes in slice_lengths(system):
             buffers = [source.junk(size) for size in sizes]
-            words = stretched(clean, length)
-            yield READ, (source.walk(system, line), words, *buffers)
+            for words in (clean, spoilt):
+                yield TAKE, (source.walk(system, line), stretched(words, length), *buffers)
             yield WRITE, (system, line, *buffers, source.junk(length))
 
 
@@ -291,7 +294,8 @@ def mixed_refusals(source):
         y, cb, cr = source.junk_buffers()
         buffers = y[choice((0, 0, 1)) :], cb[choice((0, 0, 1)) :], cr[choice((0, 0, 1)) :]
         walk = Walk(system, line, *counts)
-        yield READ, (walk, words, *buffers)
+        yield JUDGE, (walk, words)
+        yield TAKE, (walk, words, *buffers)
         yield ACTIVE, (walk, words)
         yield bytewise(walk, pack_slice(words))
         yield WRITE, (system, line, *buffers, source.junk(len(words)))

@@ -331,10 +331,6 @@ def buffers_refusal(*lengths):
     return length_refusal(lengths, SAMPLE_LENGTHS, first_place=1)
 
 
-def slices_refusal(system, words, *buffers):
-    return words_refusal(system, words) or buffers_refusal(*map(len, buffers))
-
-
 def line_size(system):
     """The bytes of a line."""
     # "two per word"
@@ -467,18 +463,20 @@ def taken(walk, words, buffers):
     return samples_of(active_part(walk.system, words))
 
 
-def read(walk, words, *buffers):
-    """Number, place, report, walk and sample buffers afterwards."""
-    refusal = walk_refusal(walk) or slices_refusal(walk.system, words, *buffers)
-    judgement = refused(walk, *refusal) if refusal else judged(walk, words)
+def take(walk, words, *buffers):
+    """Number, place and sample buffers afterwards."""
+    # "taking copies samples of a line that judges well and answers the judge's
+    # number otherwise. Refusals 3 with places 1 to 3 belong to taking"
+    number, place = judged(walk, words)[:2]
+    refusal = (number, place) if number else buffers_refusal(*map(len, buffers))
     # "No refusal writes a buffer."
-    return (*judgement, *(buffers if judgement.number else taken(walk, words, buffers)))
+    return (*refusal, *buffers) if refusal else (*ACCEPTED, *taken(walk, words, buffers))
 
 
 def active(walk, words):
     """The active part, or the empty part."""
     # "an empty part exactly when reading that line at that walk would be
-    # refused; sample buffers play no role in this call"
+    # refused; sample buffers play no role in this call": when judging refuses it.
     return [] if judged(walk, words).number else active_part(walk.system, words)
 
 
@@ -522,7 +520,8 @@ def written(due, part, words):
 def write_line(due, y, cb, cr, words):
     """Number, place and the words afterwards of the line in which this is due."""
     # "Writer: 1, 2, 3, then 12": by whatever number, so that 1 and 2 have no place.
-    refusal = slices_refusal(due.system, words, y, cb, cr)
+    lengths = len(y), len(cb), len(cr)
+    refusal = words_refusal(due.system, words) or buffers_refusal(*lengths)
     return (*refusal, words) if refusal else written(due, interleaved(y, cb, cr), words)
 
 

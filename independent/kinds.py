@@ -44,7 +44,7 @@ FILLED = (*wide("have"), "done", "failed")
 LINES = {
     protocol.CORRECT: Kind(judge.correct, ("word",), CORRECTION),
     protocol.FRESH: Kind(judge.fresh, ("system", "line"), (*ANSWER, *WALK)),
-    protocol.READ: Kind(judge.read, ("walk", "words", *SAMPLES), JUDGEMENT),
+    protocol.TAKE: Kind(judge.take, ("walk", "words", *SAMPLES), ANSWER),
     protocol.ACTIVE: Kind(counted_active, ("walk", "words"), ("count",)),
     protocol.WRITE: Kind(judge.write, ("system", "line", *SAMPLES, "words"), ANSWER),
     protocol.CODE: Kind(judge.code, (*STATE, "words", "out"), (*ANSWER, *STATE)),
@@ -129,7 +129,7 @@ KINDS = {**LINES, **SHARED, **PROGRAMMES, **ARRIVALS}
 ASKED = {
     protocol.CORRECT: ("timing::correct",),
     protocol.FRESH: ("system::fresh_walk",),
-    protocol.READ: ("reader::read",),
+    protocol.TAKE: ("reader::take",),
     protocol.ACTIVE: ("reader::active",),
     protocol.WRITE: ("writer::write",),
     protocol.CODE: ("serial::code",),

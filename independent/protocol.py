@@ -16,7 +16,7 @@ from independent.judge import bytes_of
 (
     CORRECT,
     FRESH,
-    READ,
+    TAKE,
     ACTIVE,
     WRITE,
     CODE,

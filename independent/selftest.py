@@ -28,8 +28,16 @@ def written(system, line):
     return judge.write(system, line, *buffers(), empty_line(system))[2]
 
 
+def in_turn(walk, words, *lent):
+    """Number, place, report, walk and sample buffers after judging and taking in turn."""
+    number, place, *after = judge.take(walk, words, *lent)
+    # "the walk then stands"
+    judgement = judge.refused(walk, number, place) if number else judge.judged(walk, words)
+    return (*judgement, *after)
+
+
 def reading(system, line, words, lines_read=0, repairs=0, lent=9):
-    return judge.read(Walk(system, line, lines_read, repairs), words, *buffers(lent))
+    return in_turn(Walk(system, line, lines_read, repairs), words, *buffers(lent))
 
 
 def output(system, start, lines, repairs, result):
@@ -151,11 +159,15 @@ def orders_of_refusal():
         ((625, 1, 3, 6), (3, 0)),
     )
     for walk, expected in cases:
-        yield f"order at {walk}", judge.read(Walk(*walk), short, [], [], [])[:2], expected
+        yield f"order at {walk}", in_turn(Walk(*walk), short, [], [], [])[:2], expected
     y, cb, cr = buffers()
     for lent, place in (((y[1:], [], []), 1), ((y, [], cr[1:]), 2), ((y, cb, []), 3)):
-        answer = judge.read(Walk(625, 1, 0, 0), written(625, 1), *lent)
-        yield f"length of {place}", answer[:2], (3, place)
+        walk = Walk(625, 1, 5, 2)
+        answer = in_turn(walk, written(625, 1), *lent)
+        yield f"length of {place}", answer, (3, place, CLEAN_REPORT, walk, *lent)
+        # "A word's refusal now comes before a sample buffer's"
+        answer = in_turn(walk, changed(written(625, 1), {4: 513}), *lent)
+        yield f"word before length of {place}", answer, (10, 4, CLEAN_REPORT, walk, *lent)
     line = written(625, 1)
     sav, active = judge.SYSTEMS[625].sav, judge.active_start(625)
     last = len(line) - 1

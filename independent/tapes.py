@@ -61,17 +61,14 @@ def holds_row(walk, data):
 
 
 def extract(walk, data, row):
-    # "Refused as the byte judge refuses it, and with 3 at 1, in 3's turn, for the
-    # row's length."
-    refusal = (
-        judge.walk_refusal(walk)
-        or judge.bytes_refusal(walk.system, data)
-        or row_length_refusal(row)
-    )
-    judgement = refused(walk, *refusal) if refusal else judge.judge_bytes(walk, data)
-    # "where it is accepted and its V is 0, packs its active part into the row";
-    # "Otherwise the row stays as it was."
-    if not judgement.number and holds_row(walk, data):
+    # "Refused as the byte judge refuses it, then with 3 at 1 for the row's length;
+    # the walk then stands and the row stays as it was."
+    judgement = judge.judge_bytes(walk, data)
+    refusal = judgement[:2] if judgement.number else row_length_refusal(row)
+    if refusal:
+        return (*refused(walk, *refusal), row)
+    # "where it is accepted and its V is 0, packs its active part into the row"
+    if holds_row(walk, data):
         row = row_of(judge.active_part(walk.system, judge.words_of(data)))
     return (*judgement, row)
 

@@ -40,7 +40,7 @@ module _ (w : Walk) (bytes : List ℕ) where
   -- the line is refused before its words are looked at
   pub judged-standing : (standing .number ≡ 0 → ⊥) → judgedBytes w bytes ≡ refusedAt w standing
   judged-standing n =
-      judged-refused (length bytes) (lineBytes w) none w (wordsOf bytes) standing (line-standing (length bytes) (lineBytes w) none w (wordsOf bytes) n) n
+      judged-refused (length bytes) (lineBytes w) w (wordsOf bytes) standing (line-standing (length bytes) (lineBytes w) w (wordsOf bytes) n) n
 
   -- by the walk, or by its length
   pub judged-walk : (walkRefusal w .number ≡ 0 → ⊥) → judgedBytes w bytes ≡ refusedAt w (walkRefusal w)
@@ -104,6 +104,6 @@ module _ (w : Walk) (bytes : List ℕ) where
         pub judged-well : (report : Report) → report ≡ record { eav = codeReportOf (codes .eav); sav = codeReportOf (codes .sav) }
             → Corrected d bytes codes → LineWell d bytes → judgedBytes w bytes ≡ movedAt w d report
         judged-well report e told well =
-            judged-moved (length bytes) (lineBytes w) none w (wordsOf bytes)
-            (same-number (line-words (length bytes) (lineBytes w) none w (wordsOf bytes) stands refl ∙ no-fault well))
+            judged-moved (length bytes) (lineBytes w) w (wordsOf bytes)
+            (same-number (line-words (length bytes) (lineBytes w) w (wordsOf bytes) stands ∙ no-fault well))
             ∙ rw (e ∙ reported told, in-line)

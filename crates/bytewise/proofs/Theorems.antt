@@ -2,13 +2,11 @@
 use Prim.Native.Nat.{ℕ, _*_}
 use mathlib.Core.Path.{_≡_, refl, sym, _∙_}
 use mathlib.Core.List.{List}
-use mathlib.Core.Logic.{inr}
 use native.Mathlib.Omega.{arith}
 use lib.Dec.{eqb}
 use lib.ListN.{length}
 use borrow.Author.Tests.{eq-eqb, ne-eqb, eqb-true, eqb-false}
-use Rattle.refusal.specs.Answer.{none}
-use Rattle.refusal.specs.Table.{noRows, Decides, Keeps}
+use Rattle.refusal.specs.Table.{Decides, Keeps}
 use Rattle.refusal.proofs.Cases.{by-test}
 use Rattle.words.specs.Bytes.{wordsOf}
 use Rattle.words.proofs.Bytes.{words-length}
@@ -16,7 +14,7 @@ use Rattle.system.specs.declared.walk.Walk.{Walk}
 use Rattle.system.specs.declared.walk.Judgement.{Judgement}
 use Rattle.system.specs.Walk.{lineBytes, dueIn}
 use Rattle.system.specs.Judgement.{refusedAt, acceptedAt}
-use Rattle.reader.specs.Judge.{lineRefusal, reportOf, lineJudged, readRefusal, judgedOf}
+use Rattle.reader.specs.Judge.{lineRefusal, reportOf, lineJudged, judgeRefusal, judgedOf}
 use Rattle.reader.proofs.Judged.{line-exact, line-decides, judged-as-refused, judged-refused, judged-accepted}
 use Rattle.bytewise.specs.Bytes.{bytesRefusal, judgedBytes}
 use Rattle.bytewise.specs.Refusals.{bytesRefusals}
@@ -30,32 +28,32 @@ same-test m n =
 
 module _ (w : Walk) (bytes : List ℕ) where
   -- ---- Two bytes for each word: the line is refused as its words are, and judged as they are.
-  pub bytes-refused-as-words : (n : ℕ) → length bytes ≡ 2 * n → bytesRefusal w bytes ≡ readRefusal none w (wordsOf bytes)
+  pub bytes-refused-as-words : (n : ℕ) → length bytes ≡ 2 * n → bytesRefusal w bytes ≡ judgeRefusal w (wordsOf bytes)
   unfolding lineRefusal
   bytes-refused-as-words n even = rw (even, words-length bytes n even, same-test n)
 
-  pub bytes-as-words : (n : ℕ) → length bytes ≡ 2 * n → judgedBytes w bytes ≡ judgedOf none w (wordsOf bytes)
+  pub bytes-as-words : (n : ℕ) → length bytes ≡ 2 * n → judgedBytes w bytes ≡ judgedOf w (wordsOf bytes)
   unfolding lineJudged
   bytes-as-words n even = rw (bytes-refused-as-words n even)
 
   -- ---- Each refusal comes exactly when its condition holds and none earlier does.
   pub bytes-exact : Keeps (bytesRefusals w bytes) (bytesRefusal w bytes)
-  bytes-exact = line-exact (length bytes) (lineBytes w) noRows none w (wordsOf bytes) (inr (λ r q. q, refl))
+  bytes-exact = line-exact (length bytes) (lineBytes w) w (wordsOf bytes)
 
   -- The answer's number and place are that refusal's.
   pub bytes-number : record { number = judgedBytes w bytes .number; place = judgedBytes w bytes .place } ≡ bytesRefusal w bytes
-  bytes-number = judged-as-refused (length bytes) (lineBytes w) none w (wordsOf bytes)
+  bytes-number = judged-as-refused (length bytes) (lineBytes w) w (wordsOf bytes)
 
   pub bytes-decide : Decides (bytesRefusals w bytes)
-  bytes-decide = line-decides (length bytes) (lineBytes w) noRows none w (wordsOf bytes) (λ r s x y. absurd x)
+  bytes-decide = line-decides (length bytes) (lineBytes w) w (wordsOf bytes)
 
   -- ---- A refused line leaves the walk standing and is told as clean; an accepted one advances it by its report.
   pub bytes-refused-stands : (bytesRefusal w bytes .number ≡ 0 → ⊥) → judgedBytes w bytes ≡ refusedAt w (bytesRefusal w bytes)
-  bytes-refused-stands n = judged-refused (length bytes) (lineBytes w) none w (wordsOf bytes) _ refl n
+  bytes-refused-stands n = judged-refused (length bytes) (lineBytes w) w (wordsOf bytes) _ refl n
 
   pub bytes-accepted-advances : bytesRefusal w bytes .number ≡ 0
       → judgedBytes w bytes ≡ acceptedAt w (dueIn w (wordsOf bytes)) (reportOf (dueIn w (wordsOf bytes)) (wordsOf bytes))
-  bytes-accepted-advances e = judged-accepted (length bytes) (lineBytes w) none w (wordsOf bytes) e
+  bytes-accepted-advances e = judged-accepted (length bytes) (lineBytes w) w (wordsOf bytes) e
 
   -- ---- Two results allowed for one input are the same.
   pub bytes-one-result : (r s : Judgement) → r ≡ judgedBytes w bytes → s ≡ judgedBytes w bytes → r ≡ s

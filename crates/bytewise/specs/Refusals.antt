@@ -2,11 +2,11 @@
 use Prim.Native.Nat.{ℕ}
 use mathlib.Core.List.{List}
 use lib.ListN.{length}
-use Rattle.refusal.specs.Table.{Row, noRows}
+use Rattle.refusal.specs.Table.{Row}
 use Rattle.words.specs.Bytes.{wordsOf}
 use Rattle.system.specs.declared.walk.Walk.{Walk}
 use Rattle.system.specs.Walk.{lineBytes}
 use Rattle.reader.specs.Refusals.{lineRefusals}
 
 abbrev pub bytesRefusals : Walk → List ℕ → Row
-bytesRefusals w bytes = lineRefusals (length bytes) (lineBytes w) noRows w (wordsOf bytes)
+bytesRefusals w bytes = lineRefusals (length bytes) (lineBytes w) w (wordsOf bytes)

@@ -4,7 +4,6 @@ mod pass;
 ghost use mathlib.Core.Path.{_≡_};
 ghost use Prim.Native.Nat.{_*_, _≤_};
 ghost use lib.ListN.{length};
-ghost use Rattle.refusal.specs.Answer.{none};
 ghost use Rattle.words.specs.Bytes.{wordsOf};
 ghost use Rattle.system.specs.declared.System.the-variants.{Lines625};
 ghost use Rattle.system.specs.Figures.{lineLength};
@@ -19,7 +18,7 @@ use system::Walk;
 // Judges so many words of bytes, copied into room that holds at least as many.
 fn judge_in(walk: Walk, bytes: &[u8], count: usize, room: &mut [u16]) -> Judgement
     requires { ⌜ (length (now bytes) ≡ 2 * count) × (count ≤ length (now room)) ⌝ }
-    ensures { λ r. ⌜ r ≡ judgedOf none walk (wordsOf (now (bytes .entry))) ⌝ }
+    ensures { λ r. ⌜ r ≡ judgedOf walk (wordsOf (now (bytes .entry))) ⌝ }
 {
     words::to_words(bytes, &mut room[0..count]);
     reader::judge(walk, &room[0..count])
@@ -28,7 +27,7 @@ fn judge_in(walk: Walk, bytes: &[u8], count: usize, room: &mut [u16]) -> Judgeme
 // Judges so many words of bytes, at most as many as the longer line has.
 fn judge_words(walk: Walk, bytes: &[u8], count: usize) -> Judgement
     requires { ⌜ (length (now bytes) ≡ 2 * count) × (count ≤ lineLength Lines625) ⌝ }
-    ensures { λ r. ⌜ r ≡ judgedOf none walk (wordsOf (now (bytes .entry))) ⌝ }
+    ensures { λ r. ⌜ r ≡ judgedOf walk (wordsOf (now (bytes .entry))) ⌝ }
 {
     let mut room = [0u16; System625::LINE_LENGTH];
     judge_in(walk, bytes, count, &mut room)

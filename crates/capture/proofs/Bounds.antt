@@ -95,9 +95,9 @@ small-bytes w bytes =
     let z = eqb-true _ _ t in
     let size = accepted-stood w (length bytes) (lineBytes w) z .size in
     let short : length (wordsOf bytes) < 65536 = omega (arith, words-length bytes (lineWords w) size, longest (systemOf (w .system))) in
-    rw (line-words (length bytes) (lineBytes w) none w (wordsOf bytes) z refl) (small-words (dueIn w (wordsOf bytes)) (wordsOf bytes) short))
+    rw (line-words (length bytes) (lineBytes w) w (wordsOf bytes) z) (small-words (dueIn w (wordsOf bytes)) (wordsOf bytes) short))
     (λ f.
-    rw (line-standing (length bytes) (lineBytes w) none w (wordsOf bytes) (eqb-false _ _ f))
+    rw (line-standing (length bytes) (lineBytes w) w (wordsOf bytes) (eqb-false _ _ f))
     (small-orElse (walkRefusal w) _ (small-walk w) (small-refuse (not (eqb (length bytes) (lineBytes w))) wrongLength (omega arith) (λ z. omega arith))))
 
 -- an accepted line's repairs are

@@ -1,4 +1,4 @@
-// Cases of the calls on words: timing codes, systems and walks, what is due in a line, reading, writing, the serial form, and C's two calls.
+// Cases of the calls on words: timing codes, systems and walks, what is due in a line, judging, taking, writing, the serial form, and C's two calls.
 mod coding;
 mod correction;
 mod dues;

@@ -1,4 +1,4 @@
-// The calls on several slices: reading a line, and writing one by its number, by what is due, or of an active part.
+// The calls on several slices: taking a line's samples, and writing one by its number, by what is due, or of an active part.
 use crate::dues::due;
 use cases::MOST_WORDS;
 use cases::Numbers;
@@ -16,9 +16,9 @@ fn put_samples(answer: &mut [u8], at: usize, y: &[u16], cb: &[u16], cr: &[u16]) 
     put_words(answer, at_cr, cr)
 }
 
-// reader::read.
-fn read(payload: &[u8], words: &[u16], y: &mut [u16], cb: &mut [u16], cr: &mut [u16]) -> Numbers {
-    Numbers::of_judgement(reader::read(walk(payload, 0), words, y, cb, cr))
+// reader::take.
+fn take(payload: &[u8], words: &[u16], y: &mut [u16], cb: &mut [u16], cr: &mut [u16]) -> Numbers {
+    Numbers::of_refusal(reader::take(walk(payload, 0), words, y, cb, cr))
 }
 
 // writer::write_line.
@@ -64,13 +64,13 @@ fn called(
     fourth: &mut [u16],
 ) -> Numbers {
     match kind {
-        3 => read(payload, first, second, third, fourth),
+        3 => take(payload, first, second, third, fourth),
         5 => write(payload, first, second, third, fourth),
         _ => write_line(payload, first, second, third, fourth),
     }
 }
 
-// Of a slice between the first and the last, what is answered: samples are read into those, and a line is written from them.
+// Of a slice between the first and the last, what is answered: samples are taken into those, and a line is written from them.
 fn shown(kind: u32, slice: &[u16]) -> &[u16] {
     if kind == 3 {
         return slice;
@@ -140,7 +140,7 @@ fn with_rooms(
     )
 }
 
-// reader::read, writer::write or writer::write_line: the offset is that of the slices' lengths.
+// reader::take, writer::write or writer::write_line: the offset is that of the slices' lengths.
 pub(crate) fn with_four(kind: u32, at: usize, payload: &[u8], answer: &mut [u8]) -> usize {
     let mut first = [0u16; MOST_WORDS];
     let mut second = [0u16; MOST_WORDS];

@@ -1,20 +1,22 @@
 -- The promises on extracting a line, of the definitions that the call's contract cites. Assumes nothing.
 use Prim.Native.Nat.{ℕ}
-use mathlib.Core.Path.{_≡_, refl, sym, _∙_}
+use mathlib.Core.Path.{_≡_, refl, sym, ap, _∙_}
 use mathlib.Core.Bool.{true, false}
 use mathlib.Core.List.{List}
 use lib.ListN.{length}
 use Rattle.refusal.specs.Numbers.{wrongLength}
-use Rattle.refusal.specs.Table.{when, Decides, Keeps}
-use Rattle.refusal.proofs.Tables.{keeps-unequal, decides-when}
+use Rattle.refusal.specs.Table.{Decides, Keeps}
+use Rattle.refusal.proofs.Firsts.{orElse-none}
+use Rattle.refusal.proofs.Tables.{keeps-before, keeps-unequal, decides-when, decides-before}
 use Rattle.words.specs.Bytes.{wordsOf}
 use Rattle.system.specs.declared.walk.Walk.{Walk}
 use Rattle.system.specs.declared.walk.Judgement.{Judgement}
-use Rattle.system.specs.Walk.{lineBytes, dueIn}
+use Rattle.system.specs.Walk.{dueIn}
 use Rattle.system.specs.Judgement.{refusedAt, acceptedAt}
 use Rattle.reader.specs.Judge.{reportOf}
-use Rattle.reader.proofs.Judged.{line-exact, line-decides, judged-as-refused, judged-refused, judged-accepted}
-use Rattle.bytewise.specs.Bytes.{judgedBytes}
+use Rattle.reader.proofs.Taken.{told, then-taken, then-refused, then-told}
+use Rattle.bytewise.specs.Bytes.{bytesRefusal, judgedBytes}
+use Rattle.bytewise.proofs.Theorems.{bytes-exact, bytes-decide, bytes-accepted-advances}
 use Rattle.v210.specs.Row.{rowLength}
 use Rattle.programme.specs.Extract.{roomRefusal, extractRefusal, extractedOf, givesRow, rowOfLine, rowAfterLine}
 use Rattle.programme.specs.Refusals.{extractRefusals}
@@ -23,17 +25,17 @@ use Rattle.programme.proofs.Extracts.{extracted-judged, row-refused, ro
 module _ (w : Walk) (bytes : List ℕ) (room : ℕ) where
   -- ---- Each refusal comes exactly when its condition holds and none earlier does ..
   pub extract-exact : Keeps (extractRefusals w bytes room) (extractRefusal w bytes room)
-  extract-exact = line-exact (length bytes) (lineBytes w) _ (roomRefusal room) w (wordsOf bytes) (keeps-unequal room rowLength 1)
+  extract-exact = keeps-before _ _ (bytesRefusal w bytes) _ (bytes-exact w bytes) (keeps-unequal room rowLength 1)
 
   -- .. that leaves one answer ..
   pub extract-decides : Decides (extractRefusals w bytes room)
-  extract-decides =
-      line-decides (length bytes) (lineBytes w) (when (room ≡ rowLength → ⊥) wrongLength 1) (roomRefusal room) w (wordsOf bytes)
-      (decides-when (room ≡ rowLength → ⊥) wrongLength 1)
+  extract-decides = decides-before _ _ (bytes-decide w bytes) (decides-when (room ≡ rowLength → ⊥) wrongLength 1)
 
   -- .. and the answer's number and place are that refusal's.
   pub extract-number : record { number = extractedOf w bytes room .number; place = extractedOf w bytes room .place } ≡ extractRefusal w bytes room
-  extract-number = judged-as-refused (length bytes) (lineBytes w) (roomRefusal room) w (wordsOf bytes)
+  extract-number =
+      then-told w (judgedBytes w bytes) _ (extractRefusal w bytes room) extract-exact
+      (λ z. ap told (bytes-accepted-advances w bytes (orElse-none (bytesRefusal w bytes) (roomRefusal room) z .0)))
 
 -- ---- With room for a row the line is answered as the byte judge answers it.
 pub extract-as-judged : (w : Walk) (bytes : List ℕ) → extractedOf w bytes rowLength ≡ judgedBytes w bytes
@@ -44,14 +46,16 @@ module _ (w : Walk) (bytes before : List ℕ) where
   pub extract-refused-keeps : (extractRefusal w bytes (length before) .number ≡ 0 → ⊥)
       → (extractedOf w bytes (length before) ≡ refusedAt w (extractRefusal w bytes (length before))) × (rowAfterLine w bytes before ≡ before)
   extract-refused-keeps n = (
-    judged-refused (length bytes) (lineBytes w) (roomRefusal (length before)) w (wordsOf bytes) _ refl n,
+    then-refused w (judgedBytes w bytes) (extractRefusal w bytes (length before)) n,
     row-refused w bytes before n,
   )
 
   -- An accepted line advances the walk by its report.
   pub extract-accepted-advances : extractRefusal w bytes (length before) .number ≡ 0
       → extractedOf w bytes (length before) ≡ acceptedAt w (dueIn w (wordsOf bytes)) (reportOf (dueIn w (wordsOf bytes)) (wordsOf bytes))
-  extract-accepted-advances e = judged-accepted (length bytes) (lineBytes w) (roomRefusal (length before)) w (wordsOf bytes) e
+  extract-accepted-advances e =
+      then-taken w (judgedBytes w bytes) (extractRefusal w bytes (length before)) e
+      ∙ bytes-accepted-advances w bytes (orElse-none (bytesRefusal w bytes) (roomRefusal (length before)) e .0)
 
   -- A line of V = 1 leaves the row as it was.
   pub extract-blank-keeps : givesRow w bytes ≡ false → rowAfterLine w bytes before ≡ before

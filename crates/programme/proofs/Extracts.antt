@@ -8,12 +8,12 @@ use native.Mathlib.Omega.{arith}
 use lib.Dec.{eqb}
 use lib.ListN.{length, getD, take, drop, length-drop}
 use lib.Seq.{ext-getD, length-take-le, getD-take, getD-drop}
-use borrow.Author.Tests.{eq-eqb, ne-eqb}
-use Rattle.refusal.specs.declared.Refusal.{Refusal}
+use borrow.Author.Tests.{eq-eqb, ne-eqb, eqb-true, eqb-false}
 use Rattle.refusal.specs.Numbers.{wrongLength}
-use Rattle.refusal.specs.Answer.{none}
-use Rattle.refusal.proofs.Cases.{not-true}
-use Rattle.refusal.proofs.Firsts.{same-number}
+use Rattle.refusal.specs.Answer.{none, orElse}
+use Rattle.refusal.proofs.Cases.{by-test, not-true}
+use Rattle.refusal.proofs.Firsts.{orElse-accepted, orElse-refused, same-number}
+use Rattle.refusal.proofs.Tables.{alone}
 use Rattle.words.specs.Words.{mostWord}
 use Rattle.words.specs.Bytes.{wordOfBytes, wordsOf}
 use Rattle.words.proofs.Bytes.{words-length, word-at}
@@ -21,15 +21,17 @@ use Rattle.system.specs.declared.System.{System}
 use Rattle.system.specs.declared.walk.Walk.{Walk}
 use Rattle.system.specs.declared.walk.Judgement.{Judgement}
 use Rattle.system.specs.Figures.{lineLength, activeOffset, systemOf}
-use Rattle.system.specs.Walk.{lineWords, lineBytes, standingRefusal, dueIn}
+use Rattle.system.specs.Walk.{lineWords, lineBytes, dueIn}
 use Rattle.system.specs.Judgement.{refusedAt}
 use Rattle.system.proofs.Laws.{line-is-parts, due-system}
 use Rattle.line.specs.Samples.{activeLength}
 use Rattle.line.proofs.Images.{accepted-fit}
 use Rattle.line.proofs.Places.{taken-in-place}
-use Rattle.reader.specs.Judge.{lineRefusal, lineJudged}
-use Rattle.reader.proofs.Judged.{line-standing, line-others, accepted, judged-refused, answered}
+use Rattle.reader.specs.Take.{thenTaken}
+use Rattle.reader.proofs.Judged.{accepted, answered}
+use Rattle.reader.proofs.Taken.{then-taken, then-refused}
 use Rattle.bytewise.specs.Bytes.{bytesRefusal, judgedBytes}
+use Rattle.bytewise.proofs.Theorems.{bytes-exact, bytes-refused-stands}
 use Rattle.v210.specs.Row.{rowLength, packedOf, packRefusal, rowAfter}
 use Rattle.v210.proofs.Theorems.{packed-accepted, pack-accepted-fills}
 use Rattle.programme.specs.Extract.{roomRefusal, extractRefusal, extractedOf, givesRow, rowOfLine, rowAfterLine}
@@ -81,10 +83,16 @@ module _ (w : Walk) (bytes : List ℕ) (room : ℕ) (has-room : room ≡ rowLeng
   no-refusal = simp (eq-eqb _ _ has-room)
 
   pub extract-measured : extractRefusal w bytes room ≡ bytesRefusal w bytes
-  extract-measured = ap (λ (r : Refusal). lineRefusal (length bytes) (lineBytes w) r w (wordsOf bytes)) no-refusal
+  extract-measured = ap (orElse (bytesRefusal w bytes)) no-refusal ∙ alone _ (bytesRefusal w bytes) (bytes-exact w bytes)
 
   pub extracted-judged : extractedOf w bytes room ≡ judgedBytes w bytes
-  extracted-judged = ap (λ (r : Refusal). lineJudged (length bytes) (lineBytes w) r w (wordsOf bytes)) no-refusal
+  extracted-judged =
+      by-test (eqb (bytesRefusal w bytes .number) 0)
+      (λ t. then-taken w (judgedBytes w bytes) (extractRefusal w bytes room) (same-number extract-measured ∙ eqb-true _ _ t))
+      (λ f.
+      let n = eqb-false _ _ f in
+      ap (thenTaken w (judgedBytes w bytes)) extract-measured ∙ then-refused w (judgedBytes w bytes) (bytesRefusal w bytes) n
+      ∙ sym (bytes-refused-stands w bytes n))
 
 -- ---- The row afterwards.
 and-false : (t : Bool) → (t && false) ≡ false
@@ -106,40 +114,36 @@ module _ (w : Walk) (bytes before : List ℕ) where
   unfolding rowAfterLine
   row-given z v = ap₂ (λ (t u : Bool). cond (t && u) (rowOfLine w bytes) before) (eq-eqb _ _ z) v
 
-  -- a refusal that has its turn is the whole result
-  pub refused-result : (r : Refusal) (j : Judgement) → extractRefusal w bytes (length before) ≡ r → (r .number ≡ 0 → ⊥) → j ≡ refusedAt w r
-      → (j ≡ extractedOf w bytes (length before)) × (before ≡ rowAfterLine w bytes before)
-  refused-result r j e n is = (
-    is ∙ sym (judged-refused (length bytes) (lineBytes w) (roomRefusal (length before)) w (wordsOf bytes) r e n),
-    sym (row-refused (λ z. n (sym (same-number e) ∙ z))),
-  )
-
-  -- the line refused before its words are looked at, or for the row's length
-  pub standing-result : (j : Judgement) → (standingRefusal w (length bytes) (lineBytes w) .number ≡ 0 → ⊥) → j ≡ refusedAt w (standingRefusal w (length bytes) (lineBytes w))
-      → (j ≡ extractedOf w bytes (length before)) × (before ≡ rowAfterLine w bytes before)
-  standing-result j n is = refused-result _ j (line-standing (length bytes) (lineBytes w) (roomRefusal (length before)) w (wordsOf bytes) n) n is
-
-  pub room-result : (j : Judgement) → standingRefusal w (length bytes) (lineBytes w) .number ≡ 0 → (length before ≡ rowLength → ⊥)
+  -- a line that is judged well, refused for the row's length
+  pub room-result : (j : Judgement) → bytesRefusal w bytes .number ≡ 0 → (length before ≡ rowLength → ⊥)
       → j ≡ refusedAt w (record { number = wrongLength; place = 1 }) → (j ≡ extractedOf w bytes (length before)) × (before ≡ rowAfterLine w bytes before)
-  room-result j stands n is =
-      let short : roomRefusal (length before) ≡ record { number = wrongLength; place = 1 } = simp (ne-eqb _ _ n) in
-      refused-result _ j
-      (line-others (length bytes) (lineBytes w) (roomRefusal (length before)) w (wordsOf bytes) stands (λ z. never (sym (same-number short) ∙ z)) ∙ short)
-      never is
+  room-result j well n is =
+      let short : extractRefusal w bytes (length before) ≡ record { number = wrongLength; place = 1 } =
+      orElse-accepted (bytesRefusal w bytes) (roomRefusal (length before)) well ∙ simp (ne-eqb _ _ n) in
+      let refuses : extractRefusal w bytes (length before) .number ≡ 0 → ⊥ = λ z. never (sym (same-number short) ∙ z) in (
+        is ∙ sym (then-refused w (judgedBytes w bytes) (extractRefusal w bytes (length before)) refuses ∙ ap (refusedAt w) short),
+        sym (row-refused refuses),
+      )
     where
       never : _≡_ {A = ℕ} wrongLength 0 → ⊥
       never q = omega arith
 
+  -- a line that the byte judge refuses
+  pub judge-refused-result : (j : Judgement) → j ≡ judgedBytes w bytes → (j .number ≡ 0 → ⊥)
+      → (j ≡ extractedOf w bytes (length before)) × (before ≡ rowAfterLine w bytes before)
+  judge-refused-result j is n =
+      let bad : bytesRefusal w bytes .number ≡ 0 → ⊥ = λ z. n (answered (length bytes) (lineBytes w) w (wordsOf bytes) j is ∙ z) in
+      let same = orElse-refused (bytesRefusal w bytes) (roomRefusal (length before)) bad in
+      let refuses : extractRefusal w bytes (length before) .number ≡ 0 → ⊥ = λ z. bad (sym (same-number same) ∙ z) in (
+        is ∙ bytes-refused-stands w bytes bad
+            ∙ sym (then-refused w (judgedBytes w bytes) (extractRefusal w bytes (length before)) refuses ∙ ap (refusedAt w) same),
+        sym (row-refused refuses),
+      )
+
   -- ---- With room for a row, what the byte judge answers is the answer.
   module _ (room : length before ≡ rowLength) (j : Judgement) (is : j ≡ judgedBytes w bytes) where
-    pub answer-number : j .number ≡ bytesRefusal w bytes .number
-    answer-number = answered (length bytes) (lineBytes w) none w (wordsOf bytes) j is
-
     extract-number : extractRefusal w bytes (length before) .number ≡ j .number
-    extract-number = same-number (extract-measured w bytes (length before) room) ∙ sym answer-number
-
-    pub judge-refused-result : (j .number ≡ 0 → ⊥) → (j ≡ extractedOf w bytes (length before)) × (before ≡ rowAfterLine w bytes before)
-    judge-refused-result n = (is ∙ sym (extracted-judged w bytes (length before) room), sym (row-refused (λ z. n (sym extract-number ∙ z))))
+    extract-number = same-number (extract-measured w bytes (length before) room) ∙ sym (answered (length bytes) (lineBytes w) w (wordsOf bytes) j is)
 
     pub blank-result : givesRow w bytes ≡ false → (j ≡ extractedOf w bytes (length before)) × (before ≡ rowAfterLine w bytes before)
     blank-result v = (is ∙ sym (extracted-judged w bytes (length before) room), sym (row-blank v))
@@ -165,7 +169,7 @@ module _ (w : Walk) (bytes : List ℕ) (size : length bytes ≡ lineBytes w) whe
       let words = wordsOf bytes in
       let system = due-system w (getD words 3 0) in
       let long = words-length bytes (lineWords w) size ∙ ap lineLength (sym system) in
-      let well = accepted (length bytes) (lineBytes w) none w words z .well in
+      let well = accepted (length bytes) (lineBytes w) w words z .well in
       let inside = accepted-fit (dueIn w words) words long well .range (not-true _ v) k l .1 in
       let at = taken-in-place (dueIn w words) words k l ∙ ap (λ (s : System). getD words (activeOffset s + k) 0) system in
       omega (arith, inside, at)

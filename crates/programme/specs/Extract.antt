@@ -6,27 +6,28 @@ use lib.ListN.{length, take, drop}
 use lib.Dec.{eqb}
 use Rattle.refusal.specs.declared.Refusal.{Refusal}
 use Rattle.refusal.specs.Numbers.{wrongLength}
-use Rattle.refusal.specs.Answer.{refuse}
+use Rattle.refusal.specs.Answer.{refuse, orElse}
 use Rattle.words.specs.Bytes.{wordsOf}
 use Rattle.system.specs.declared.walk.Walk.{Walk}
 use Rattle.system.specs.declared.walk.Judgement.{Judgement}
 use Rattle.system.specs.Figures.{activeOffset, systemOf}
-use Rattle.system.specs.Walk.{lineBytes, dueIn}
+use Rattle.system.specs.Walk.{dueIn}
 use Rattle.line.specs.Samples.{activeLength}
-use Rattle.reader.specs.Judge.{lineRefusal, lineJudged}
+use Rattle.reader.specs.Take.{thenTaken}
+use Rattle.bytewise.specs.Bytes.{bytesRefusal, judgedBytes}
 use Rattle.v210.specs.Row.{rowLength, packedOf}
 
 -- what is wrong with the row's length
 abbrev pub roomRefusal : ℕ → Refusal
 roomRefusal room = refuse (not (eqb room rowLength)) wrongLength 1
 
--- the byte judge's refusals, and 3 at 1 for the row, in 3's turn
+-- the byte judge's refusals, then 3 at 1 for the row: a row is taken as samples are
 abbrev pub extractRefusal : Walk → List ℕ → ℕ → Refusal
-extractRefusal w bytes room = lineRefusal (length bytes) (lineBytes w) (roomRefusal room) w (wordsOf bytes)
+extractRefusal w bytes room = orElse (bytesRefusal w bytes) (roomRefusal room)
 
 -- the whole answer
 abbrev pub extractedOf : Walk → List ℕ → ℕ → Judgement
-extractedOf w bytes room = lineJudged (length bytes) (lineBytes w) (roomRefusal room) w (wordsOf bytes)
+extractedOf w bytes room = thenTaken w (judgedBytes w bytes) (extractRefusal w bytes room)
 
 -- "the row of each V = 0 line": whether the line that is lent gives a row
 unfoldable pub givesRow : Walk → List ℕ → Bool

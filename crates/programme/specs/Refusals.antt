@@ -7,13 +7,12 @@ use mathlib.Core.Logic.{_⊎_}
 use lib.ListN.{length}
 use Rattle.refusal.specs.Numbers.{wrongLength, overTen, outside}
 use Rattle.refusal.specs.Table.{Row, when, _before_, Lowest}
-use Rattle.words.specs.Bytes.{wordsOf}
 use Rattle.system.specs.declared.walk.Walk.{Walk}
 use Rattle.system.specs.Walk.{lineBytes}
 use Rattle.system.specs.Refusals.{standingRefusals}
 use Rattle.line.specs.Fault.{leastSample, mostSample}
 use Rattle.line.specs.Samples.{activeLength, sampleAt}
-use Rattle.reader.specs.Refusals.{lineRefusals}
+use Rattle.bytewise.specs.Refusals.{bytesRefusals}
 use Rattle.v210.specs.Row.{rowLength, rowWords, rowWord, mostRowWord}
 use Rattle.programme.specs.Record.{takesRow, rowSamples}
 
@@ -29,4 +28,4 @@ abbrev pub recordRefusals : Walk → List ℕ → ℕ → Row
 recordRefusals w row room = standingRefusals w room (lineBytes w) before rowRefusals w row
 
 abbrev pub extractRefusals : Walk → List ℕ → ℕ → Row
-extractRefusals w bytes room = lineRefusals (length bytes) (lineBytes w) (when (room ≡ rowLength → ⊥) wrongLength 1) w (wordsOf bytes)
+extractRefusals w bytes room = bytesRefusals w bytes before when (room ≡ rowLength → ⊥) wrongLength 1

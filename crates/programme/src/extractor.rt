@@ -42,15 +42,14 @@ fn pack_active(active: &[u8], row: &mut [u8])
 }
 
 // Extracts the line that a walk awaits from its bytes: judges it, and where it is accepted and its V is 0, packs its active part into the
-// row. Refused as the byte judge refuses it, and with 3 at 1, in 3's turn, for the row's length. Otherwise the row stays as it was.
+// row. Refused as the byte judge refuses it, then with 3 at 1 for the row's length; the walk then stands and the row stays as it was.
 pub fn extract(walk: Walk, bytes: &[u8], row: &mut [u8]) -> Judgement
     ensures answer { λ r. ⌜ r ≡ extractedOf walk (now (bytes .entry)) (length (now (row .entry))) ⌝ }
     ensures row { λ r. ⌜ now (row .exit) ≡ rowAfterLine walk (now (bytes .entry)) (now (row .entry)) ⌝ }
 {
-    let size = walk.line_bytes();
-    let standing = walk.standing(bytes.len(), size);
-    if standing.number != 0 {
-        return Judgement::refused(walk, standing);
+    let judgement = bytewise::judge(walk, bytes);
+    if judgement.number != 0 {
+        return judgement;
     }
     if row.len() != v210::ROW_LENGTH {
         return Judgement::refused(
@@ -61,13 +60,10 @@ pub fn extract(walk: Walk, bytes: &[u8], row: &mut [u8]) -> Judgement
             },
         );
     }
-    let judgement = bytewise::judge(walk, bytes);
-    if judgement.number != 0 {
-        return judgement;
-    }
     if !gives_row(walk, bytes) {
         return judgement;
     }
+    let size = walk.line_bytes();
     let start = size - 2 * ACTIVE_LENGTH;
     pack_active(&bytes[start..size], row);
     judgement

@@ -1,8 +1,7 @@
--- Laws of the judgement, for all who read a line at a walk: each refusal in its turn, what is known of a line that none refuses, and that the
+-- Laws of the judgement, for all who judge a line at a walk: each refusal in its turn, what is known of a line that none refuses, and that the
 -- answer keeps to its table. Assumes nothing.
 use Prim.Native.Nat.{ℕ, _+_, _≤_}
 use mathlib.Core.Path.{_≡_, refl, sym, ap, _∙_}
-use mathlib.Core.Bool.{true, false}
 use mathlib.Core.List.{List, []}
 use native.Mathlib.Omega.{arith}
 use lib.Dec.{eqb}
@@ -10,11 +9,10 @@ use lib.ListN.{length, take, drop}
 use borrow.Author.Tests.{eq-eqb, ne-eqb, eqb-true, eqb-false}
 use Rattle.refusal.specs.declared.Refusal.{Refusal}
 use Rattle.refusal.specs.Answer.{none}
-use Rattle.refusal.specs.Table.{Row, Decides, Keeps}
+use Rattle.refusal.specs.Table.{Decides, Keeps}
 use Rattle.refusal.proofs.Cases.{by-test}
 use Rattle.refusal.proofs.Firsts.{orElse-accepted, orElse-refused, orElse-none}
 use Rattle.refusal.proofs.Tables.{alone, keeps-before, keeps-last, decides-before}
-use Rattle.system.specs.declared.due.Due.{Due}
 use Rattle.system.specs.declared.walk.Walk.{Walk}
 use Rattle.system.specs.declared.walk.Judgement.{Judgement}
 use Rattle.system.specs.Figures.{activeOffset, systemOf}
@@ -25,15 +23,15 @@ use Rattle.system.proofs.Theorems.{standing-exact, standing-decides}
 use Rattle.line.specs.Fault.{wordRefusal}
 use Rattle.line.specs.Samples.{activeLength}
 use Rattle.line.proofs.Theorems.{words-exact, words-decide}
-use Rattle.reader.specs.Judge.{lineRefusal, reportOf, lineJudged, readRefusal, bufferAfter, activeOf}
+use Rattle.reader.specs.Judge.{lineRefusal, reportOf, lineJudged, judgeRefusal, activeOf}
 use Rattle.reader.specs.Refusals.{lineRefusals}
 
-module _ (given due : ℕ) (others : Refusal) (w : Walk) (words : List ℕ) where
+module _ (given due : ℕ) (w : Walk) (words : List ℕ) where
   abbrev pub answer : Refusal
-  answer = lineRefusal given due others w words
+  answer = lineRefusal given due w words
 
   abbrev pub judged : Judgement
-  judged = lineJudged given due others w words
+  judged = lineJudged given due w words
 
   abbrev pub wordsAnswer : Refusal
   wordsAnswer = wordRefusal (dueIn w words) words
@@ -43,39 +41,30 @@ module _ (given due : ℕ) (others : Refusal) (w : Walk) (words : List ℕ) wher
   unfolding lineRefusal
   line-standing n = orElse-refused (standingRefusal w given due) _ n
 
-  module _ (stands : standingRefusal w given due .number ≡ 0) where
-    pub line-others : (others .number ≡ 0 → ⊥) → answer ≡ others
-    unfolding lineRefusal
-    line-others n = orElse-accepted (standingRefusal w given due) _ stands ∙ orElse-refused others _ n
-
-    pub line-words : others .number ≡ 0 → answer ≡ wordsAnswer
-    unfolding lineRefusal
-    line-words z =
-        orElse-accepted (standingRefusal w given due) _ stands ∙ orElse-accepted others _ z ∙ alone _ wordsAnswer (words-exact (dueIn w words) words)
+  pub line-words : standingRefusal w given due .number ≡ 0 → answer ≡ wordsAnswer
+  unfolding lineRefusal
+  line-words stands = orElse-accepted (standingRefusal w given due) _ stands ∙ alone _ wordsAnswer (words-exact (dueIn w words) words)
 
   -- ---- no refusal has its turn
   pub record Accepted : Type 0 where
     pub walk : walkRefusal w .number ≡ 0
     pub size : given ≡ due
-    pub lengths : others .number ≡ 0
     pub well : wordsAnswer .number ≡ 0
 
   pub accepted : answer .number ≡ 0 → Accepted
   unfolding lineRefusal
   accepted e =
       let first = orElse-none (standingRefusal w given due) _ e in
-      let second = orElse-none others _ (first .1) in
-      let third = orElse-none wordsAnswer none (second .1) in
+      let second = orElse-none wordsAnswer none (first .1) in
       let stood = accepted-stood w given due (first .0) in
-      record { walk = stood .walk; size = stood .size; lengths = second .0; well = third .0 }
+      record { walk = stood .walk; size = stood .size; well = second .0 }
 
   pub accepted-is-none : answer .number ≡ 0 → answer ≡ none
   unfolding lineRefusal
   accepted-is-none e =
       let first = orElse-none (standingRefusal w given due) _ e in
-      let second = orElse-none others _ (first .1) in
-      let third = orElse-none wordsAnswer none (second .1) in
-      orElse-accepted _ _ (first .0) ∙ orElse-accepted others _ (second .0) ∙ orElse-accepted wordsAnswer none (third .0)
+      let second = orElse-none wordsAnswer none (first .1) in
+      orElse-accepted _ _ (first .0) ∙ orElse-accepted wordsAnswer none (second .0)
 
   -- ---- the judgement
   pub judged-refused : (r : Refusal) → answer ≡ r → (r .number ≡ 0 → ⊥) → judged ≡ refusedAt w r
@@ -108,42 +97,27 @@ module _ (given due : ℕ) (others : Refusal) (w : Walk) (words : List ℕ) wher
   pub answered : (j : Judgement) → j ≡ judged → j .number ≡ answer .number
   answered j e = ap (λ (i : Judgement). i .number) e ∙ number-judged
 
--- ---- the answer keeps to the table, where the other lengths keep to theirs, and the table decides, where theirs does
-module _ (given due : ℕ) (rows : Row) (others : Refusal) (w : Walk) (words : List ℕ) where
-  pub line-exact : Keeps rows others → Keeps (lineRefusals given due rows w words) (lineRefusal given due others w words)
+-- ---- the answer keeps to the table, and the table decides
+module _ (given due : ℕ) (w : Walk) (words : List ℕ) where
+  pub line-exact : Keeps (lineRefusals given due w words) (lineRefusal given due w words)
   unfolding lineRefusal
-  line-exact kept =
+  line-exact =
       keeps-before _ _ (standingRefusal w given due) _ (standing-exact w given due)
-      (keeps-before _ _ others _ kept (keeps-last _ (wordRefusal (dueIn w words) words) (words-exact (dueIn w words) words)))
+      (keeps-last _ (wordRefusal (dueIn w words) words) (words-exact (dueIn w words) words))
 
-  pub line-decides : Decides rows → Decides (lineRefusals given due rows w words)
-  line-decides decided =
-      decides-before _ _ (standing-decides w given due) (decides-before _ _ decided (words-decide (dueIn w words) words))
-
--- ---- a sample buffer afterwards
-module _ (j : Judgement) (d : Due) (samples before : List ℕ) where
-  pub buffer-refused : (j .number ≡ 0 → ⊥) → bufferAfter j d samples before ≡ before
-  unfolding bufferAfter
-  buffer-refused n = simp (ne-eqb _ _ n)
-
-  pub buffer-blank : j .number ≡ 0 → d .v ≡ true → bufferAfter j d samples before ≡ before
-  unfolding bufferAfter
-  buffer-blank e v = simp (eq-eqb _ _ e, v)
-
-  pub buffer-taken : j .number ≡ 0 → d .v ≡ false → bufferAfter j d samples before ≡ samples
-  unfolding bufferAfter
-  buffer-taken e v = simp (eq-eqb _ _ e, v)
+  pub line-decides : Decides (lineRefusals given due w words)
+  line-decides = decides-before _ _ (standing-decides w given due) (words-decide (dueIn w words) words)
 
 -- ---- the active part
 module _ (w : Walk) (words : List ℕ) where
   -- an accepted line is long enough for it
-  pub active-fits : (buffers : Refusal) → readRefusal buffers w words .number ≡ 0 → activeOffset (systemOf (w .system)) + activeLength ≤ length words
-  active-fits buffers e = omega (arith, accepted (length words) (lineWords w) buffers w words e .size, line-is-parts (systemOf (w .system)))
+  pub active-fits : judgeRefusal w words .number ≡ 0 → activeOffset (systemOf (w .system)) + activeLength ≤ length words
+  active-fits e = omega (arith, accepted (length words) (lineWords w) w words e .size, line-is-parts (systemOf (w .system)))
 
-  pub active-refused : (readRefusal none w words .number ≡ 0 → ⊥) → activeOf w words ≡ []
+  pub active-refused : (judgeRefusal w words .number ≡ 0 → ⊥) → activeOf w words ≡ []
   unfolding activeOf
   active-refused n = simp (ne-eqb _ _ n)
 
-  pub active-accepted : readRefusal none w words .number ≡ 0 → activeOf w words ≡ take activeLength (drop (activeOffset (systemOf (w .system))) words)
+  pub active-accepted : judgeRefusal w words .number ≡ 0 → activeOf w words ≡ take activeLength (drop (activeOffset (systemOf (w .system))) words)
   unfolding activeOf
   active-accepted e = simp (eq-eqb _ _ e)

@@ -1,4 +1,6 @@
 mod Tests
 mod Parts
 pub mod Judged
+pub mod Taken
 pub mod Theorems
+pub mod Former

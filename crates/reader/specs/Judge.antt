@@ -1,11 +1,11 @@
--- Document 01: the whole answer of judging and reading a line at a walk: number, place, report, walk, and the sample buffers.
+-- Document 01: the whole answer of judging a line at a walk: number, place, report, walk; and its active part.
 use Prim.Native.Nat.{ℕ, _+_}
 use mathlib.Core.List.{List, [], _∷_}
 use mathlib.Core.Bool.{cond}
 use lib.ListN.{length, getD, take, drop}
 use lib.Dec.{eqb}
 use Rattle.refusal.specs.declared.Refusal.{Refusal}
-use Rattle.refusal.specs.Answer.{none, firstOf}
+use Rattle.refusal.specs.Answer.{firstOf}
 use Rattle.timing.specs.declared.Report.{Report}
 use Rattle.timing.specs.Code.{correctionOf}
 use Rattle.timing.specs.Report.{codeReportOf}
@@ -26,30 +26,24 @@ reportOf d words =
       sav = codeReportOf (correctionOf (getD words (savOffset (d .system) + 3) 0));
     }
 
--- "Reader: 1, 2, 4, 3, then the lowest offset with any fault": the order for all who read a line at a walk. So many words, or bytes, are
--- given and so many due, and others is what is wrong with the lengths of other slices.
-unfoldable pub lineRefusal : ℕ → ℕ → Refusal → Walk → List ℕ → Refusal
-lineRefusal given due others w words = firstOf (standingRefusal w given due ∷ others ∷ wordRefusal (dueIn w words) words ∷ [])
+-- "Reader: 1, 2, 4, 3, then the lowest offset with any fault": the order for all who judge a line at a walk. So many words, or bytes, are
+-- given and so many due.
+unfoldable pub lineRefusal : ℕ → ℕ → Walk → List ℕ → Refusal
+lineRefusal given due w words = firstOf (standingRefusal w given due ∷ wordRefusal (dueIn w words) words ∷ [])
 
 -- and the whole judgement of it
-unfoldable pub lineJudged : ℕ → ℕ → Refusal → Walk → List ℕ → Judgement
+unfoldable pub lineJudged : ℕ → ℕ → Walk → List ℕ → Judgement
 unfolding lineRefusal
-lineJudged given due others w words =
-    judgementOf (lineRefusal given due others w words) w (dueIn w words) (reportOf (dueIn w words) words)
+lineJudged given due w words = judgementOf (lineRefusal given due w words) w (dueIn w words) (reportOf (dueIn w words) words)
 
--- of words, where buffers is what is wrong with the sample buffers
-abbrev pub readRefusal : Refusal → Walk → List ℕ → Refusal
-readRefusal buffers w words = lineRefusal (length words) (lineWords w) buffers w words
+-- of words
+abbrev pub judgeRefusal : Walk → List ℕ → Refusal
+judgeRefusal w words = lineRefusal (length words) (lineWords w) w words
 
-abbrev pub judgedOf : Refusal → Walk → List ℕ → Judgement
-judgedOf buffers w words = lineJudged (length words) (lineWords w) buffers w words
-
--- A sample buffer afterwards: "No refusal writes a buffer", and with V = 1 it is "neither looked at nor written".
-unfoldable pub bufferAfter : Judgement → Due → List ℕ → List ℕ → List ℕ
-bufferAfter j d samples before = cond (eqb (j .number) 0) (cond (d .v) before samples) before
+abbrev pub judgedOf : Walk → List ℕ → Judgement
+judgedOf w words = lineJudged (length words) (lineWords w) w words
 
 -- "it gets the part of its own slice ..; and an empty part exactly when reading that line at that walk would be refused; sample
--- buffers play no role in this call"
+-- buffers play no role in this call": when judging refuses it
 unfoldable pub activeOf : Walk → List ℕ → List ℕ
-activeOf w words =
-    cond (eqb (readRefusal none w words .number) 0) (take activeLength (drop (activeOffset (systemOf (w .system))) words)) []
+activeOf w words = cond (eqb (judgeRefusal w words .number) 0) (take activeLength (drop (activeOffset (systemOf (w .system))) words)) []

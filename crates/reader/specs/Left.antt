@@ -1,24 +1,24 @@
--- What a judgement leaves, refused or accepted.
+-- What judging and taking in turn leave, refused or accepted.
 use Prim.Native.Nat.{ℕ}
 use mathlib.Core.Path.{_≡_}
 use mathlib.Core.Bool.{true, false}
 use mathlib.Core.List.{List}
 use Rattle.timing.specs.Report.{cleanReport}
 use Rattle.system.specs.declared.walk.Walk.{Walk}
-use Rattle.system.specs.declared.due.Due.{Due}
-use Rattle.system.specs.declared.walk.Judgement.{Judgement}
 use Rattle.system.specs.Walk.{dueIn}
-use Rattle.reader.specs.Judge.{reportOf, bufferAfter}
 use Rattle.system.specs.Judgement.{acceptedAt}
+use Rattle.line.specs.Samples.{Samples, samplesOf}
+use Rattle.reader.specs.Judge.{reportOf}
+use Rattle.reader.specs.Take.{Turn}
 
--- what a refusal leaves as it was
-pub record Stands (w : Walk) (j : Judgement) : Type 0 where
-  pub walk : j .walk ≡ w
-  pub report : j .report ≡ cleanReport
-  pub buffer : (d : Due) (samples before : List ℕ) → bufferAfter j d samples before ≡ before
+-- what a refusal leaves as it was, of the judge or of taking
+pub record Stands (w : Walk) (b : Samples) (t : Turn) : Type 0 where
+  pub walk : t .judgement .walk ≡ w
+  pub report : t .judgement .report ≡ cleanReport
+  pub buffers : t .buffers ≡ b
 
 -- what an accepted line leaves: the buffers hold its samples where its V is 0
-pub record Advances (w : Walk) (words : List ℕ) (j : Judgement) : Type 0 where
-  pub answer : j ≡ acceptedAt w (dueIn w words) (reportOf (dueIn w words) words)
-  pub picture : dueIn w words .v ≡ false → (samples before : List ℕ) → bufferAfter j (dueIn w words) samples before ≡ samples
-  pub blank : dueIn w words .v ≡ true → (samples before : List ℕ) → bufferAfter j (dueIn w words) samples before ≡ before
+pub record Advances (w : Walk) (words : List ℕ) (b : Samples) (t : Turn) : Type 0 where
+  pub answer : t .judgement ≡ acceptedAt w (dueIn w words) (reportOf (dueIn w words) words)
+  pub picture : dueIn w words .v ≡ false → t .buffers ≡ samplesOf (dueIn w words) words
+  pub blank : dueIn w words .v ≡ true → t .buffers ≡ b

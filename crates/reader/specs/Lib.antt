@@ -1,4 +1,6 @@
 pub mod Judge
+pub mod Take
 pub mod Refusals
 pub mod Passes
 pub mod Left
+pub mod Former

@@ -15,16 +15,15 @@ use Rattle.refusal.proofs.Cases.{by-test}
 use Rattle.system.specs.declared.walk.Walk.{Walk}
 use Rattle.system.specs.Figures.{lineLength, systemOf}
 use Rattle.system.specs.Walk.{mostLines, walkRefusal, freshWalk, freshOf, advancedOf, lineBytes}
-use Rattle.system.proofs.Laws.{Good, accepted-good, good-accepted, fresh-accepted, named-accepted, walk-many-lines, judgement-well}
+use Rattle.system.proofs.Laws.{Good, accepted-good, good-accepted, fresh-accepted, named-accepted, walk-many-lines}
 use Rattle.line.specs.Samples.{Samples}
 use Rattle.line.specs.Fit.{Measured}
 use Rattle.system.specs.declared.walk.Judgement.{Judgement}
-use Rattle.line.proofs.Lengths.{measured-accepted}
-use Rattle.reader.specs.Judge.{judgedOf, lineJudged}
 use Rattle.words.specs.Bytes.{wordsOf}
 use Rattle.bytewise.specs.Bytes.{judgedBytes}
 use Rattle.bytewise.proofs.Judged.{judged-count}
 use Rattle.reader.proofs.Judged.{accepted, judged-accepted, number-judged}
+use Rattle.reader.proofs.Taken.{measured-turn}
 use Rattle.refusal.specs.Answer.{none}
 use Rattle.refusal.proofs.Firsts.{same-number}
 use Rattle.bytewise.proofs.Theorems.{bytes-as-words}
@@ -33,9 +32,10 @@ use Rattle.confirmation.specs.Run.{headerLength, headerSystem, headerStart, beg
 use Rattle.confirmation.proofs.Nexts.{endedWith, next-line-bytes}
 use Rattle.confirmation.proofs.Bodies.{line-has-bytes, body-ended, body-none, body-next, body-last, body-barred}
 use Rattle.recording.specs.Recording.{Recording, end, next, lineAfterAll, TwoInverted}
-use Rattle.recording.specs.Play.{readAnswer, readBuffers, Played, stoppedBy, play}
+use Rattle.reader.specs.Take.{inTurn}
+use Rattle.recording.specs.Play.{Played, stoppedBy, play}
 use Rattle.recording.specs.Confirmed.{Holds}
-use Rattle.recording.proofs.OneLine.{buffers-measured, answered-accepted}
+use Rattle.recording.proofs.OneLine.{accepted-judgement, buffers-measured}
 use Rattle.recording.proofs.Theorems.{fresh, line-after-in, few, blank, blank-measured, recording-reads-back, two-inverted-refused, read-through-is-recording}
 
 -- every line has so many bytes
@@ -52,28 +52,26 @@ module _ (system start : ℕ) where
   abbrev runAfter : Played → Run
   runAfter p = record { system = system; start = start; walk = p .walk; number = p .number; place = p .place }
 
-  -- one line: its bytes are judged as the read call answers to its words
+  -- one line: its bytes are judged as the two in turn answer to its words
   module _ (w : Walk) (b : Samples) (m : Measured b) (line : List ℕ) (size : length line ≡ lineBytes w) where
-    judged-as-read : judgedNext (goingOn w) line ≡ runAfter (stoppedBy (readAnswer w b (wordsOf line)))
+    judged-as-read : judgedNext (goingOn w) line ≡ runAfter (stoppedBy (inTurn w (wordsOf line) b .judgement))
     unfolding judgedNext
     judged-as-read =
         ap (λ (j : Judgement). runAfter (stoppedBy j))
-        (bytes-as-words w line (lineLength (systemOf (w .system))) size
-        ∙ ap (λ (r : Refusal). judgedOf r w (wordsOf line)) (sym (measured-accepted b m)))
+        (bytes-as-words w line (lineLength (systemOf (w .system))) size ∙ sym (measured-turn w (wordsOf line) b m))
 
-    line-judged : (rest : List ℕ) → bodyOf (goingOn w) (line ++ rest) ≡ bodyOf (runAfter (stoppedBy (readAnswer w b (wordsOf line)))) rest
+    line-judged : (rest : List ℕ) → bodyOf (goingOn w) (line ++ rest) ≡ bodyOf (runAfter (stoppedBy (inTurn w (wordsOf line) b .judgement))) rest
     line-judged rest =
         body-next (goingOn w) (line ++ rest) refl (omega (arith, length-append line rest, line-has-bytes w))
         ∙ rw (take-at line rest (lineBytes w) size, drop-at line rest (lineBytes w) size) (ap (λ (r : Run). bodyOf r rest) judged-as-read)
 
-    goes-on : readAnswer w b (wordsOf line) .number ≡ 0
-        → runAfter (stoppedBy (readAnswer w b (wordsOf line))) ≡ goingOn (readAnswer w b (wordsOf line) .walk)
-    unfolding lineJudged
+    goes-on : inTurn w (wordsOf line) b .judgement .number ≡ 0
+        → runAfter (stoppedBy (inTurn w (wordsOf line) b .judgement)) ≡ goingOn (inTurn w (wordsOf line) b .judgement .walk)
     goes-on z =
-        let e = judgement-well _ w _ _ z in
+        let e = accepted-judgement w b (wordsOf line) z in
         ap (λ (j : Judgement). runAfter (stoppedBy j)) e ∙ sym (ap (λ (j : Judgement). goingOn (j .walk)) e)
 
-    same-bytes : lineBytes (readAnswer w b (wordsOf line) .walk) ≡ lineBytes w
+    same-bytes : lineBytes (inTurn w (wordsOf line) b .judgement .walk) ≡ lineBytes w
     same-bytes = ap (λ (r : Run). lineBytes (r .walk)) (sym judged-as-read) ∙ next-line-bytes (goingOn w) line
 
   -- and all lines, whatever follows
@@ -84,16 +82,16 @@ module _ (system start : ℕ) where
   run-plays (line ∷ lines) w b m each rest =
       let size = each line (List·Memᴰ·head refl) in
       let words = wordsOf line in
-      let j = readAnswer w b words in
+      let j = inTurn w words b .judgement in
       rw append-assoc
       (line-judged w b m line size (flatten lines ++ rest)
       ∙ by-test (eqb (j .number) 0)
       (λ t.
       let z = eqb-true _ _ t in
-      let measured = buffers-measured w (answered-accepted w b words z .good) b m words z in
+      let measured = buffers-measured w b words z m in
       simp t
       (ap (λ (r : Run). bodyOf r (flatten lines ++ rest)) (goes-on w b m line size z)
-      ∙ run-plays lines (j .walk) (readBuffers w b words) measured
+      ∙ run-plays lines (j .walk) (inTurn w words b .buffers) measured
       (λ one at. each one (List·Memᴰ·tail at) ∙ sym (same-bytes w b m line size)) rest))
       (λ f. simp f (body-ended _ _ (eqb-false _ _ f) ∙ sym (body-ended _ _ (eqb-false _ _ f)))))
 
@@ -128,12 +126,12 @@ record Counted (w : Walk) (line : List ℕ) : Type 0 where
 accepted-counted : (w : Walk) (line : List ℕ) → judgedBytes w line .number ≡ 0 → Counted w line
 unfolding advancedOf
 accepted-counted w line z =
-    let well = sym (number-judged (length line) (lineBytes w) none w (wordsOf line)) ∙ z in
-    let a = accepted (length line) (lineBytes w) none w (wordsOf line) well in
+    let well = sym (number-judged (length line) (lineBytes w) w (wordsOf line)) ∙ z in
+    let a = accepted (length line) (lineBytes w) w (wordsOf line) well in
     record {
       good = accepted-good w (a .walk);
       size = a .size;
-      one-more = ap (λ (j : Judgement). j .walk .lines) (judged-accepted (length line) (lineBytes w) none w (wordsOf line) well);
+      one-more = ap (λ (j : Judgement). j .walk .lines) (judged-accepted (length line) (lineBytes w) w (wordsOf line) well);
     }
 
 -- bytes that are whole lines, for which a walk has room

@@ -8,7 +8,6 @@ use mathlib.Core.Bool.{Bool, true, false, cond, not}
 use lib.Dec.{eqb}
 use lib.ListN.{length, getD, take, drop}
 use borrow.Author.Tests.{eqb-true}
-use Rattle.refusal.specs.declared.Refusal.{Refusal}
 use Rattle.refusal.proofs.Cases.{by-test}
 use Rattle.words.specs.Bytes.{wordsOf}
 use Rattle.system.specs.declared.System.{System}
@@ -17,19 +16,17 @@ use Rattle.system.specs.declared.walk.Judgement.{Judgement}
 use Rattle.system.specs.Figures.{lineLength, activeOffset, systemOf}
 use Rattle.system.specs.Walk.{lineWords, lineBytes, advancedOf, dueIn}
 use Rattle.system.proofs.Laws.{due-system}
-use Rattle.line.specs.Lengths.{bufferRefusal}
 use Rattle.line.specs.Samples.{Samples, activeLength}
 use Rattle.line.specs.Fit.{Measured}
-use Rattle.line.proofs.Lengths.{measured-accepted}
-use Rattle.reader.specs.Judge.{judgedOf}
-use Rattle.reader.proofs.Judged.{number-judged, judged-accepted}
+use Rattle.reader.proofs.Taken.{measured-turn}
 use Rattle.bytewise.proofs.Theorems.{bytes-as-words}
 use Rattle.v210.specs.Row.{rowLength, packedOf}
 use Rattle.programme.specs.Extract.{extractedOf, givesRow, rowOfLine}
 use Rattle.programme.proofs.ExtractTheorems.{extract-as-judged}
-use Rattle.recording.specs.Play.{readAnswer, readBuffers, Played, andThen, play}
+use Rattle.reader.specs.Take.{inTurn}
+use Rattle.recording.specs.Play.{Played, andThen, play}
 use Rattle.recording.specs.Programme.{Extracted, rowThen, refusedBy, extractAll, rowOf, Whole}
-use Rattle.recording.proofs.OneLine.{picture-buffers, buffers-measured, answered-accepted}
+use Rattle.recording.proofs.OneLine.{accepted-judgement, picture-buffers, buffers-measured, answered-accepted}
 use Rattle.recording.proofs.Rows.{active-part-of-samples}
 
 -- what is extracted of lines that are read so
@@ -44,35 +41,30 @@ row-before false row p rest same = ap (λ (r : List ℕ). rowThen true r (extrac
 
 -- ---- one line
 module _ (w : Walk) (b : Samples) (m : Measured b) (bytes : List ℕ) (size : length bytes ≡ lineBytes w) where
-  extracted-as-read : extractedOf w bytes rowLength ≡ readAnswer w b (wordsOf bytes)
+  extracted-as-read : extractedOf w bytes rowLength ≡ inTurn w (wordsOf bytes) b .judgement
   extracted-as-read =
-      extract-as-judged w bytes ∙ bytes-as-words w bytes (lineWords w) size
-      ∙ ap (λ (r : Refusal). judgedOf r w (wordsOf bytes)) (sym (measured-accepted b m))
+      extract-as-judged w bytes ∙ bytes-as-words w bytes (lineWords w) size ∙ sym (measured-turn w (wordsOf bytes) b m)
 
-  module _ (accepted : readAnswer w b (wordsOf bytes) .number ≡ 0) where
-    same-system : readAnswer w b (wordsOf bytes) .walk .system ≡ w .system
+  module _ (accepted : inTurn w (wordsOf bytes) b .judgement .number ≡ 0) where
+    same-system : inTurn w (wordsOf bytes) b .judgement .walk .system ≡ w .system
     unfolding advancedOf
-    same-system =
-        let buffers = bufferRefusal (length (b .y)) (length (b .cb)) (length (b .cr)) in
-        ap (λ (j : Judgement). j .walk .system)
-        (judged-accepted (length (wordsOf bytes)) (lineWords w) buffers w (wordsOf bytes)
-        (sym (number-judged (length (wordsOf bytes)) (lineWords w) buffers w (wordsOf bytes)) ∙ accepted))
+    same-system = ap (λ (j : Judgement). j .walk .system) (accepted-judgement w b (wordsOf bytes) accepted)
 
     -- the row of a V = 0 line is that of the samples read
-    row-as-read : dueIn w (wordsOf bytes) .v ≡ false → rowOfLine w bytes ≡ rowOf (readBuffers w b (wordsOf bytes))
+    row-as-read : dueIn w (wordsOf bytes) .v ≡ false → rowOfLine w bytes ≡ rowOf (inTurn w (wordsOf bytes) b .buffers)
     unfolding rowOfLine
     row-as-read v =
         let a = answered-accepted w b (wordsOf bytes) accepted in
         let system = due-system w (getD (wordsOf bytes) 3 0) in
         ap (λ (s : System). packedOf (take activeLength (drop (activeOffset s) (wordsOf bytes)))) (sym system)
         ∙ active-part-of-samples (dueIn w (wordsOf bytes)) (wordsOf bytes) (a .size ∙ ap lineLength (sym system))
-        ∙ ap rowOf (sym (picture-buffers w (a .good) b m (wordsOf bytes) accepted v))
+        ∙ ap rowOf (sym (picture-buffers w b (wordsOf bytes) accepted v))
 
     row-kept : (rest : Played)
         → rowThen (givesRow w bytes) (rowOfLine w bytes) (extractedAs rest)
-        ≡ extractedAs (andThen (dueIn w (wordsOf bytes) .v) (readBuffers w b (wordsOf bytes)) rest)
+        ≡ extractedAs (andThen (dueIn w (wordsOf bytes) .v) (inTurn w (wordsOf bytes) b .buffers) rest)
     unfolding givesRow
-    row-kept rest = row-before (dueIn w (wordsOf bytes) .v) (rowOfLine w bytes) (readBuffers w b (wordsOf bytes)) rest row-as-read
+    row-kept rest = row-before (dueIn w (wordsOf bytes) .v) (rowOfLine w bytes) (inTurn w (wordsOf bytes) b .buffers) rest row-as-read
 
 -- ---- all lines
 pub extracts-as-plays : (lines : List (List ℕ)) (w : Walk) (b : Samples) → Measured b → Whole (w .system) lines
@@ -82,17 +74,17 @@ extracts-as-plays [] w b m whole = refl
 extracts-as-plays (bytes ∷ rest) w b m whole =
     let size = whole bytes (List·Memᴰ·head refl) in
     let words = wordsOf bytes in
-    let j = readAnswer w b words in
+    let j = inTurn w words b .judgement in
     ap (λ (x : Judgement). cond (eqb (x .number) 0) (rowThen (givesRow w bytes) (rowOfLine w bytes) (extractAll (x .walk) rest)) (refusedBy x))
     (extracted-as-read w b m bytes size)
     ∙ by-test (eqb (j .number) 0)
     (λ t.
     let z = eqb-true _ _ t in
-    let measured = buffers-measured w (answered-accepted w b words z .good) b m words z in
+    let measured = buffers-measured w b words z m in
     let same = same-system w b m bytes size z in
     simp t
     (ap (rowThen (givesRow w bytes) (rowOfLine w bytes))
-    (extracts-as-plays rest (j .walk) (readBuffers w b words) measured
+    (extracts-as-plays rest (j .walk) (inTurn w words b .buffers) measured
     (λ line at. whole line (List·Memᴰ·tail at) ∙ ap (λ (n : ℕ). 2 * lineLength (systemOf n)) (sym same)))
-    ∙ row-kept w b m bytes size z (play (j .walk) (readBuffers w b words) (map wordsOf rest))))
+    ∙ row-kept w b m bytes size z (play (j .walk) (inTurn w words b .buffers) (map wordsOf rest))))
     (λ f. simp f)

@@ -88,7 +88,8 @@ module _ (system start : ℕ) where
       → extractedRun (going w) line rowLength ≡ going (extractedOf w line rowLength .walk)
   unfolding lineJudged
   goes-on w line z =
-      let e = judgement-well _ w _ _ z in
+      let same = extract-as-judged w line in
+      let e = same ∙ judgement-well _ w _ _ (ap (λ (j : Judgement). j .number) (sym same) ∙ z) in
       ap (λ (j : Judgement). record { system = system; start = start; walk = j .walk; number = j .number; place = j .place }) e
       ∙ sym (ap (λ (j : Judgement). going (j .walk)) e)
 

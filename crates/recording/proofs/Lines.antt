@@ -29,7 +29,8 @@ use Rattle.line.proofs.Damaged.{read-length, damaged-accepted, eav-found, sav-f
 use Rattle.reader.specs.Judge.{reportOf}
 use Rattle.writer.specs.Write.{writeRefusal, lineAfter}
 use Rattle.writer.proofs.Theorems.{written-samples-fit, accepted-writes-the-line}
-use Rattle.recording.specs.Play.{readAnswer, readBuffers, Played, andThen, stoppedBy, play}
+use Rattle.reader.specs.Take.{inTurn}
+use Rattle.recording.specs.Play.{Played, andThen, stoppedBy, play}
 use Rattle.recording.proofs.OneLine.{due-at-walk, accepted-answer, refused-answer, picture-buffers}
 
 abbrev pub at : ℕ → ℕ → ℕ → ℕ → Walk
@@ -73,16 +74,16 @@ module _ (w : Walk) (good : Good w) (b : Samples) (m : Measured b) (d : Due) (ok
         let y = sav-counted d ok p fits read e s end-at low dam past-sav hs in
         omega arith
 
-    due-read : readAnswer w b read ≡ acceptedAt w d (reportOf d read)
+    due-read : inTurn w read b .judgement ≡ acceptedAt w d (reportOf d read)
     due-read =
         accepted-answer w good b m read read-size
         (ap (λ (x : Due). wordRefusal x read) is-due ∙ damaged-accepted d ok p fits read e s end-at low dam whole he hs)
         ∙ ap (λ (x : Due). acceptedAt w x (reportOf x read)) is-due
 
-    due-accepted : readAnswer w b read .number ≡ 0
+    due-accepted : inTurn w read b .judgement .number ≡ 0
     due-accepted = ap (λ (j : Judgement). j .number) due-read
 
-    due-walk : readAnswer w b read .walk ≡ at (w .system) (nextLine (systemOf (w .system)) (w .line)) (w .lines + 1) (w .repairs + (e + s))
+    due-walk : inTurn w read b .judgement .walk ≡ at (w .system) (nextLine (systemOf (w .system)) (w .line)) (w .lines + 1) (w .repairs + (e + s))
     unfolding advancedOf
     due-walk =
         ap (λ (j : Judgement). j .walk) due-read
@@ -90,29 +91,29 @@ module _ (w : Walk) (good : Good w) (b : Samples) (m : Measured b) (d : Due) (ok
         ∙ ap (λ (k : ℕ). at (w .system) (nextLine (systemOf (w .system)) (w .line)) (w .lines + 1) (w .repairs + k)) counted
 
     -- the samples are returned, where the line carries some
-    due-returned : d .v ≡ false → readBuffers w b read ≡ p
+    due-returned : d .v ≡ false → inTurn w read b .buffers ≡ p
     due-returned v =
-        picture-buffers w good b m read due-accepted (ap (λ (x : Due). x .v) is-due ∙ v)
+        picture-buffers w b read due-accepted (ap (λ (x : Due). x .v) is-due ∙ v)
         ∙ rw is-due (samples-unchanged d ok p fits read e s end-at low dam whole v)
 
-    picture-kept : (rest : Played) → andThen (dueIn w read .v) (readBuffers w b read) rest ≡ andThen (d .v) p rest
+    picture-kept : (rest : Played) → andThen (dueIn w read .v) (inTurn w read b .buffers) rest ≡ andThen (d .v) p rest
     picture-kept rest =
-        ap (λ (x : Due). andThen (x .v) (readBuffers w b read) rest) is-due
+        ap (λ (x : Due). andThen (x .v) (inTurn w read b .buffers) rest) is-due
         ∙ by-test (d .v) (λ v. simp v) (λ v. ap (λ (q : Samples). andThen (d .v) q rest) (due-returned v))
 
     -- so playing goes on behind the line
     due-plays-on : (rest : List (List ℕ)) → play w b (read ∷ rest)
         ≡ andThen (d .v) p
-        (play (at (w .system) (nextLine (systemOf (w .system)) (w .line)) (w .lines + 1) (w .repairs + (e + s))) (readBuffers w b read) rest)
+        (play (at (w .system) (nextLine (systemOf (w .system)) (w .line)) (w .lines + 1) (w .repairs + (e + s))) (inTurn w read b .buffers) rest)
     unfolding play
     due-plays-on rest =
         simp (eq-eqb _ _ due-accepted)
-        (picture-kept (play (readAnswer w b read .walk) (readBuffers w b read) rest)
-        ∙ ap (λ (v : Walk). andThen (d .v) p (play v (readBuffers w b read) rest)) due-walk)
+        (picture-kept (play (inTurn w read b .judgement .walk) (inTurn w read b .buffers) rest)
+        ∙ ap (λ (v : Walk). andThen (d .v) p (play v (inTurn w read b .buffers) rest)) due-walk)
 
   -- two bits of a code: refused with 8 there
   due-refused : (place : ℕ) → wordRefusal (dueIn w read) read ≡ record { number = 8; place = place }
-      → readAnswer w b read ≡ refusedAt w (record { number = 8; place = place })
+      → inTurn w read b .judgement ≡ refusedAt w (record { number = 8; place = place })
   due-refused place eight = refused-answer w good b m read read-size (record { number = 8; place = place }) (λ z. omega arith) eight
 
 -- fill is of ten bits in every line
@@ -155,30 +156,30 @@ module _ (w : Walk) (good : Good w) (b : Samples) (m : Measured b) (p : Samples)
         ap (λ (x : Due). reportOf x read) (due-at-walk w read)
         ∙ due-clean w good b m due (proper (w .system) (w .line)) p fit read e s end-at (due-at-walk w read) in-line of-line ends he hs ze zs
 
-    pub line-read : readAnswer w b read ≡ acceptedAt w due (reportOf (dueIn w read) read)
+    pub line-read : inTurn w read b .judgement ≡ acceptedAt w due (reportOf (dueIn w read) read)
     line-read =
         due-read w good b m due (proper (w .system) (w .line)) p fit read e s end-at (due-at-walk w read) in-line of-line ends he hs
         ∙ ap (λ (x : Due). acceptedAt w due (reportOf x read)) (sym (due-at-walk w read))
 
-    pub line-accepted : readAnswer w b read .number ≡ 0
+    pub line-accepted : inTurn w read b .judgement .number ≡ 0
     line-accepted = ap (λ (j : Judgement). j .number) line-read
 
-    pub samples-returned : due .v ≡ false → readBuffers w b read ≡ p
+    pub samples-returned : due .v ≡ false → inTurn w read b .buffers ≡ p
     samples-returned = due-returned w good b m due (proper (w .system) (w .line)) p fit read e s end-at (due-at-walk w read) in-line of-line ends he hs
 
     pub plays-on : (rest : List (List ℕ)) → play w b (read ∷ rest)
         ≡ andThen (due .v) p
-        (play (at (w .system) (nextLine (systemOf (w .system)) (w .line)) (w .lines + 1) (w .repairs + (e + s))) (readBuffers w b read) rest)
+        (play (at (w .system) (nextLine (systemOf (w .system)) (w .line)) (w .lines + 1) (w .repairs + (e + s))) (inTurn w read b .buffers) rest)
     plays-on = due-plays-on w good b m due (proper (w .system) (w .line)) p fit read e s end-at (due-at-walk w read) in-line of-line ends he hs
 
   pub refused-there : (place : ℕ) → wordRefusal (dueIn w read) read ≡ record { number = 8; place = place }
-      → readAnswer w b read ≡ refusedAt w (record { number = 8; place = place })
+      → inTurn w read b .judgement ≡ refusedAt w (record { number = 8; place = place })
   refused-there = due-refused w good b m due (proper (w .system) (w .line)) p fit read e s end-at (due-at-walk w read) in-line of-line
 
 -- a line that is refused with 8 stops the reading
-pub stops : (w : Walk) (b : Samples) (read : List ℕ) (place : ℕ) → readAnswer w b read ≡ refusedAt w (record { number = 8; place = place })
+pub stops : (w : Walk) (b : Samples) (read : List ℕ) (place : ℕ) → inTurn w read b .judgement ≡ refusedAt w (record { number = 8; place = place })
     → (rest : List (List ℕ)) → play w b (read ∷ rest) ≡ record { pictures = []; number = 8; place = place; walk = w }
 unfolding play
 stops w b read place j rest =
-    let n : readAnswer w b read .number ≡ 8 = ap (λ (x : Judgement). x .number) j in
-    simp (ne-eqb (readAnswer w b read .number) 0 (λ z. omega arith)) (ap stoppedBy j)
+    let n : inTurn w read b .judgement .number ≡ 8 = ap (λ (x : Judgement). x .number) j in
+    simp (ne-eqb (inTurn w read b .judgement .number) 0 (λ z. omega arith)) (ap stoppedBy j)

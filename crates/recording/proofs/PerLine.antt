@@ -1,11 +1,12 @@
 -- The promises on one line, of the definitions that the calls' contracts cite. Assumes nothing.
 use Prim.Native.Nat.{ℕ, _+_, _≤_}
 use mathlib.Core.Path.{_≡_, refl, sym, ap, subst, _∙_}
-use mathlib.Core.List.{List}
+use mathlib.Core.List.{List, [], _∷_}
 use mathlib.Core.Bool.{true, false}
 use native.Mathlib.Omega.{arith}
 use lib.Dec.{eqb}
 use lib.ListN.{length, getD}
+use borrow.Author.Tests.{ne-eqb}
 use Rattle.refusal.proofs.Cases.{by-test}
 use Rattle.timing.specs.Code.{legalOf, sevenOf, distanceOf, correctionOf}
 use Rattle.timing.specs.Report.{codeReportOf, bitTold, cleanReport}
@@ -23,7 +24,10 @@ use Rattle.system.specs.Judgement.{acceptedAt}
 use Rattle.writer.specs.Write.{writeRefusal, lineAfter}
 use Rattle.writer.proofs.Theorems.{accepted-writes-the-line}
 use Rattle.recording.specs.Recording.{invertedBit}
-use Rattle.recording.specs.Play.{readAnswer, readBuffers}
+use Rattle.reader.specs.Judge.{judgedOf}
+use Rattle.reader.specs.Take.{takeRefusal, inTurn}
+use Rattle.reader.proofs.Taken.{then-refused}
+use Rattle.recording.specs.Play.{stoppedBy, play}
 use Rattle.recording.proofs.OneLine.{answered-accepted}
 use Rattle.recording.proofs.Lines.{line-read, line-accepted, reported, clean-reported, samples-returned}
 use Rattle.recording.proofs.Theorems.{writable, image}
@@ -38,13 +42,13 @@ module _ (w : Walk) (good : Good w) (b : Samples) (m : Measured b) where
   pub damaged-line-reads-back : (p : Samples) (buffer read : List ℕ) (eav sav : ℕ)
       → writeRefusal (w .system) (w .line) p (length buffer) .number ≡ 0
       → Damaged (dueOf (systemOf (w .system)) (w .line)) (lineAfter (w .system) (w .line) p buffer) read eav sav → eav ≤ 1 → sav ≤ 1
-      → (readAnswer w b read
+      → (inTurn w read b .judgement
       ≡ acceptedAt w (dueOf (systemOf (w .system)) (w .line))
       (record {
         eav = toldOf (flagsOf (dueOf (systemOf (w .system)) (w .line)) true) (getD read 3 0);
         sav = toldOf (flagsOf (dueOf (systemOf (w .system)) (w .line)) false) (getD read (savOffset (systemOf (w .system)) + 3) 0);
       }))
-      × (vOf (systemOf (w .system)) (w .line) ≡ false → readBuffers w b read ≡ p)
+      × (vOf (systemOf (w .system)) (w .line) ≡ false → inTurn w read b .buffers ≡ p)
   unfolding dueOf
   damaged-line-reads-back p buffer read eav sav written dam he hs =
       let whole = accepted-writes-the-line (w .system) (w .line) p buffer written .1 in
@@ -59,8 +63,8 @@ module _ (w : Walk) (good : Good w) (b : Samples) (m : Measured b) where
   pub damaged-line-bits : (p : Samples) (buffer read : List ℕ) (eav sav : ℕ)
       → writeRefusal (w .system) (w .line) p (length buffer) .number ≡ 0
       → Damaged (dueOf (systemOf (w .system)) (w .line)) (lineAfter (w .system) (w .line) p buffer) read eav sav → eav ≤ 1 → sav ≤ 1
-      → (bitTold (readAnswer w b read .report .eav) ≡ invertedBit (flagsOf (dueOf (systemOf (w .system)) (w .line)) true) (getD read 3 0))
-      × (bitTold (readAnswer w b read .report .sav)
+      → (bitTold (inTurn w read b .judgement .report .eav) ≡ invertedBit (flagsOf (dueOf (systemOf (w .system)) (w .line)) true) (getD read 3 0))
+      × (bitTold (inTurn w read b .judgement .report .sav)
       ≡ invertedBit (flagsOf (dueOf (systemOf (w .system)) (w .line)) false) (getD read (savOffset (systemOf (w .system)) + 3) 0))
   damaged-line-bits p buffer read eav sav written dam he hs =
       let answer = damaged-line-reads-back p buffer read eav sav written dam he hs .0 in
@@ -71,8 +75,8 @@ module _ (w : Walk) (good : Good w) (b : Samples) (m : Measured b) where
 
   -- Reading back a written line: accepted, both codes told as clean, and the samples are the written ones.
   pub written-line-reads-back : (p : Samples) (buffer : List ℕ) → writeRefusal (w .system) (w .line) p (length buffer) .number ≡ 0
-      → (readAnswer w b (lineAfter (w .system) (w .line) p buffer) ≡ acceptedAt w (dueOf (systemOf (w .system)) (w .line)) cleanReport)
-      × (vOf (systemOf (w .system)) (w .line) ≡ false → readBuffers w b (lineAfter (w .system) (w .line) p buffer) ≡ p)
+      → (inTurn w (lineAfter (w .system) (w .line) p buffer) b .judgement ≡ acceptedAt w (dueOf (systemOf (w .system)) (w .line)) cleanReport)
+      × (vOf (systemOf (w .system)) (w .line) ≡ false → inTurn w (lineAfter (w .system) (w .line) p buffer) b .buffers ≡ p)
   unfolding dueOf
   written-line-reads-back p buffer written =
       let d = dueOf (systemOf (w .system)) (w .line) in
@@ -87,7 +91,7 @@ module _ (w : Walk) (good : Good w) (b : Samples) (m : Measured b) where
       )
 
   -- A line is accepted exactly when it is such an image of the line that the writer leaves for some samples; and for those returned.
-  pub accepted-is-image : (read : List ℕ) → readAnswer w b read .number ≡ 0
+  pub accepted-is-image : (read : List ℕ) → inTurn w read b .judgement .number ≡ 0
       → (writeRefusal (w .system) (w .line) (samplesOf (dueOf (systemOf (w .system)) (w .line)) read) (length read) .number ≡ 0)
       × Damaged (dueOf (systemOf (w .system)) (w .line))
       (lineAfter (w .system) (w .line) (samplesOf (dueOf (systemOf (w .system)) (w .line)) read) read) read
@@ -104,9 +108,18 @@ module _ (w : Walk) (good : Good w) (b : Samples) (m : Measured b) where
   pub image-is-accepted : (p : Samples) (buffer read : List ℕ) (eav sav : ℕ)
       → writeRefusal (w .system) (w .line) p (length buffer) .number ≡ 0
       → Damaged (dueOf (systemOf (w .system)) (w .line)) (lineAfter (w .system) (w .line) p buffer) read eav sav → eav ≤ 1 → sav ≤ 1
-      → readAnswer w b read .number ≡ 0
+      → inTurn w read b .judgement .number ≡ 0
   image-is-accepted p buffer read eav sav written dam he hs =
       let whole = accepted-writes-the-line (w .system) (w .line) p buffer written .1 in
       let size = length (lineAfter (w .system) (w .line) p buffer) in
       let low : size ≤ lineLength (systemOf (w .system)) = omega arith in
       line-accepted w good b m p buffer read eav sav size written low dam whole he hs
+
+-- Where taking a line is refused, by the judge or for a buffer's length, playing ends there with taking's answer, and the walk stands.
+pub refused-taking-ends : (w : Walk) (b : Samples) (words : List ℕ) (rest : List (List ℕ)) → (takeRefusal w words b .number ≡ 0 → ⊥)
+    → play w b (words ∷ rest)
+    ≡ record { pictures = []; number = takeRefusal w words b .number; place = takeRefusal w words b .place; walk = w }
+unfolding play
+refused-taking-ends w b words rest n =
+    let ends = then-refused w (judgedOf w words) (takeRefusal w words b) n in
+    simp (ne-eqb _ _ (λ z. n (ap (λ (j : Judgement). j .number) (sym ends) ∙ z))) (ap stoppedBy ends)

@@ -31,7 +31,8 @@ use Rattle.system.specs.Judgement.{refusedAt}
 use Rattle.writer.specs.Write.{writeRefusal, lineAfter}
 use Rattle.writer.proofs.Theorems.{written-samples-fit, accepted-writes-the-line}
 use Rattle.recording.specs.Recording.{Recording, end, next, pictures, lineAfterAll, TwoInverted, in-eav, in-sav}
-use Rattle.recording.specs.Play.{readAnswer, readBuffers, Played, andThen, stoppedBy, play}
+use Rattle.reader.specs.Take.{inTurn}
+use Rattle.recording.specs.Play.{Played, andThen, stoppedBy, play}
 use Rattle.recording.proofs.OneLine.{due-at-walk, buffers-measured, Accepted, answered-accepted}
 use Rattle.recording.proofs.Lines.{at, proper, fit, of-line, line-accepted, plays-on, refused-there, stops}
 
@@ -64,7 +65,7 @@ through {system} (next {line = line} {eav = eav} {sav = sav} {altered = altered}
     let size = length (lineAfter system line p buffer) in
     let low : size ≤ lineLength (systemOf system) = omega arith in
     let accepted = line-accepted w good b m p buffer read eav sav size written low dam whole he hs' in
-    let rest-of = through more hs (lines + 1) (repairs + (eav + sav)) (readBuffers w b read) (buffers-measured w good b m read accepted) rest
+    let rest-of = through more hs (lines + 1) (repairs + (eav + sav)) (inTurn w read b .buffers) (buffers-measured w b read accepted m) rest
     (next-line-in system line hl) (omega arith) (omega arith) in
     let e : lines + 1 + length ps ≡ lines + suc (length ps) = omega arith in
     let f : repairs + (eav + sav) + altered ≡ repairs + (eav + sav + altered) = omega arith in (
@@ -98,7 +99,7 @@ few (next buffer written dam he hs more) = omega (arith, few more)
 
 -- a line with two inverted bits in a code is refused there
 pub two-inverted-line-refused : {w : Walk} {p : Samples} {read : List ℕ} {place : ℕ} → Good w → (b : Samples) → Measured b
-    → TwoInverted (w .system) (w .line) p read place → readAnswer w b read ≡ refusedAt w (record { number = 8; place = place })
+    → TwoInverted (w .system) (w .line) p read place → inTurn w read b .judgement ≡ refusedAt w (record { number = 8; place = place })
 unfolding dueOf
 two-inverted-line-refused {w} {p} {read} good b m (in-eav {sav = sav} buffer written dam) =
     let low : 4 ≤ lineLength (systemOf (w .system)) = omega (arith, line-is-parts (systemOf (w .system))) in
@@ -204,13 +205,13 @@ module _ (w : Walk) (read : List ℕ) (accepted : Accepted w read) where
       (accepted-image (dueOf (systemOf (w .system)) (w .line)) read (accepted .size) well)
 
 -- where reading a line and more ends well, the line was accepted
-goes-on : (w : Walk) (b : Samples) (read : List ℕ) (rest : List (List ℕ)) → play w b (read ∷ rest) .number ≡ 0 → readAnswer w b read .number ≡ 0
+goes-on : (w : Walk) (b : Samples) (read : List ℕ) (rest : List (List ℕ)) → play w b (read ∷ rest) .number ≡ 0 → inTurn w read b .judgement .number ≡ 0
 unfolding play
 goes-on w b read rest z =
-    by-test (eqb (readAnswer w b read .number) 0) (λ t. eqb-true _ _ t)
+    by-test (eqb (inTurn w read b .judgement .number) 0) (λ t. eqb-true _ _ t)
     (λ f. absurd (eqb-false _ _ f (sym (ap (λ (r : Played). r .number) (opened (eqb-false _ _ f))) ∙ z)))
   where
-    opened : (readAnswer w b read .number ≡ 0 → ⊥) → play w b (read ∷ rest) ≡ stoppedBy (readAnswer w b read)
+    opened : (inTurn w read b .judgement .number ≡ 0 → ⊥) → play w b (read ∷ rest) ≡ stoppedBy (inTurn w read b .judgement)
     opened n = simp (ne-eqb _ _ n)
 
 -- lines that are read through from a walk, with k repairs on the way
@@ -237,8 +238,8 @@ is-image w (read ∷ rest) b m few z =
     let size = length (lineAfter (w .system) (w .line) p read) in
     let low : size ≤ lineLength (systemOf (w .system)) = omega arith in
     let q = plays-on w (accepted .good) b m p read read e s size written low (image w read accepted) whole he hs rest in
-    let i = is-image (at (w .system) (nextLine (systemOf (w .system)) (w .line)) (w .lines + 1) (w .repairs + (e + s))) rest (readBuffers w b read)
-    (buffers-measured w (accepted .good) b m read answered) (omega (arith, accepted .good .lines)) (ap (λ (r : Played). r .number) (sym q) ∙ z) in (
+    let i = is-image (at (w .system) (nextLine (systemOf (w .system)) (w .line)) (w .lines + 1) (w .repairs + (e + s))) rest (inTurn w read b .buffers)
+    (buffers-measured w b read answered m) (omega (arith, accepted .good .lines)) (ap (λ (r : Played). r .number) (sym q) ∙ z) in (
       p ∷ i .0,
       e + s + i .1,
       next read written (image w read accepted) he hs (i .2),

@@ -1,29 +1,13 @@
--- Reading line by line up to the first refusal, by the read call's own definitions.
+-- Judging and taking line by line up to the first refusal, by the definitions of the two calls in turn.
 use Prim.Native.Nat.{ℕ}
 use mathlib.Core.List.{List, [], _∷_}
 use mathlib.Core.Bool.{Bool, cond}
 use lib.Dec.{eqb}
-use lib.ListN.{length}
 use Rattle.system.specs.declared.walk.Walk.{Walk}
-use Rattle.system.specs.Figures.{activeOffset, systemOf}
-use Rattle.line.specs.Lengths.{bufferRefusal}
-use Rattle.line.specs.Samples.{Samples, ysFrom, cbsFrom, crsFrom}
 use Rattle.system.specs.declared.walk.Judgement.{Judgement}
 use Rattle.system.specs.Walk.{dueIn}
-use Rattle.reader.specs.Judge.{judgedOf, bufferAfter}
-
--- what the read call answers, with sample buffers that hold this
-abbrev pub readAnswer : Walk → Samples → List ℕ → Judgement
-readAnswer w b words = judgedOf (bufferRefusal (length (b .y)) (length (b .cb)) (length (b .cr))) w words
-
--- what it leaves in them
-abbrev pub readBuffers : Walk → Samples → List ℕ → Samples
-readBuffers w b words =
-    record {
-      y = bufferAfter (readAnswer w b words) (dueIn w words) (ysFrom (activeOffset (systemOf (w .system))) words) (b .y);
-      cb = bufferAfter (readAnswer w b words) (dueIn w words) (cbsFrom (activeOffset (systemOf (w .system))) words) (b .cb);
-      cr = bufferAfter (readAnswer w b words) (dueIn w words) (crsFrom (activeOffset (systemOf (w .system))) words) (b .cr);
-    }
+use Rattle.line.specs.Samples.{Samples}
+use Rattle.reader.specs.Take.{inTurn}
 
 -- what comes of it: the samples of each accepted V = 0 line, and the last answer's number, place and walk
 pub record Played : Type 0 where
@@ -40,9 +24,10 @@ andThen v b rest =
 abbrev pub stoppedBy : Judgement → Played
 stoppedBy j = record { pictures = []; number = j .number; place = j .place; walk = j .walk }
 
+-- the sample buffers hold what the line before left in them
 unfoldable pub play : Walk → Samples → List (List ℕ) → Played
 play w b [] = record { pictures = []; number = 0; place = 0; walk = w }
 play w b (words ∷ rest) =
-    cond (eqb (readAnswer w b words .number) 0)
-    (andThen (dueIn w words .v) (readBuffers w b words) (play (readAnswer w b words .walk) (readBuffers w b words) rest))
-    (stoppedBy (readAnswer w b words))
+    cond (eqb (inTurn w words b .judgement .number) 0)
+    (andThen (dueIn w words .v) (inTurn w words b .buffers) (play (inTurn w words b .judgement .walk) (inTurn w words b .buffers) rest))
+    (stoppedBy (inTurn w words b .judgement))

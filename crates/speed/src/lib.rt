@@ -1,12 +1,9 @@
 // The calls of reader, writer and serial for C, so that a benchmark can time them beside C's own. Each answers the call's number.
 ghost use mathlib.Core.Path.{_≡_};
 ghost use lib.ListN.{length};
-ghost use Rattle.refusal.specs.Answer.{none};
-ghost use Rattle.system.specs.Figures.{systemOf, activeOffset};
-ghost use Rattle.system.specs.Walk.{freshWalk, dueIn};
-ghost use Rattle.line.specs.Lengths.{bufferRefusal};
-ghost use Rattle.line.specs.Samples.{ysFrom, cbsFrom, crsFrom};
-ghost use Rattle.reader.specs.Judge.{judgedOf, bufferAfter};
+ghost use Rattle.system.specs.Walk.{freshWalk};
+ghost use Rattle.reader.specs.Judge.{judgedOf};
+ghost use Rattle.reader.specs.Take.{takeRefusal, takenOf, inTurn};
 ghost use Rattle.writer.specs.Write.{writeRefusal, lineAfter};
 ghost use Rattle.serial.specs.Calls.{codeAnswer, codeOutput, decodeAnswer, decodeOutput};
 use serial::State;
@@ -14,14 +11,14 @@ use system::Walk;
 
 #[no_mangle]
 pub extern "C" fn speed_judge(system: u32, line: u32, words: &[u16]) -> u32
-    ensures { λ r. ⌜ r ≡ judgedOf none (freshWalk system line) (now (words .entry)) .number ⌝ }
+    ensures { λ r. ⌜ r ≡ judgedOf (freshWalk system line) (now (words .entry)) .number ⌝ }
 {
     let walk = Walk::of(system, line, 0, 0);
     reader::judge(walk, words).number
 }
 
 #[no_mangle]
-pub extern "C" fn speed_read(
+pub extern "C" fn speed_take(
     system: u32,
     line: u32,
     words: &[u16],
@@ -29,13 +26,36 @@ pub extern "C" fn speed_read(
     cb: &mut [u16],
     cr: &mut [u16],
 ) -> u32
-    ensures answer { λ r. ⌜ r ≡ judgedOf (bufferRefusal (length (now (y .entry))) (length (now (cb .entry))) (length (now (cr .entry)))) (freshWalk system line) (now (words .entry)) .number ⌝ }
-    ensures ys { λ r. ⌜ now (y .exit) ≡ bufferAfter (judgedOf (bufferRefusal (length (now (y .entry))) (length (now (cb .entry))) (length (now (cr .entry)))) (freshWalk system line) (now (words .entry))) (dueIn (freshWalk system line) (now (words .entry))) (ysFrom (activeOffset (systemOf system)) (now (words .entry))) (now (y .entry)) ⌝ }
-    ensures cbs { λ r. ⌜ now (cb .exit) ≡ bufferAfter (judgedOf (bufferRefusal (length (now (y .entry))) (length (now (cb .entry))) (length (now (cr .entry)))) (freshWalk system line) (now (words .entry))) (dueIn (freshWalk system line) (now (words .entry))) (cbsFrom (activeOffset (systemOf system)) (now (words .entry))) (now (cb .entry)) ⌝ }
-    ensures crs { λ r. ⌜ now (cr .exit) ≡ bufferAfter (judgedOf (bufferRefusal (length (now (y .entry))) (length (now (cb .entry))) (length (now (cr .entry)))) (freshWalk system line) (now (words .entry))) (dueIn (freshWalk system line) (now (words .entry))) (crsFrom (activeOffset (systemOf system)) (now (words .entry))) (now (cr .entry)) ⌝ }
+    ensures answer { λ r. ⌜ r ≡ takeRefusal (freshWalk system line) (now (words .entry)) (record { y = now (y .entry); cb = now (cb .entry); cr = now (cr .entry) }) .number ⌝ }
+    ensures ys { λ r. ⌜ now (y .exit) ≡ takenOf (freshWalk system line) (now (words .entry)) (record { y = now (y .entry); cb = now (cb .entry); cr = now (cr .entry) }) .y ⌝ }
+    ensures cbs { λ r. ⌜ now (cb .exit) ≡ takenOf (freshWalk system line) (now (words .entry)) (record { y = now (y .entry); cb = now (cb .entry); cr = now (cr .entry) }) .cb ⌝ }
+    ensures crs { λ r. ⌜ now (cr .exit) ≡ takenOf (freshWalk system line) (now (words .entry)) (record { y = now (y .entry); cb = now (cb .entry); cr = now (cr .entry) }) .cr ⌝ }
 {
     let walk = Walk::of(system, line, 0, 0);
-    reader::read(walk, words, y, cb, cr).number
+    reader::take(walk, words, y, cb, cr).number
+}
+
+// Judging and taking in turn, as one who reads lines has it.
+#[no_mangle]
+pub extern "C" fn speed_in_turn(
+    system: u32,
+    line: u32,
+    words: &[u16],
+    y: &mut [u16],
+    cb: &mut [u16],
+    cr: &mut [u16],
+) -> u32
+    ensures answer { λ r. ⌜ r ≡ inTurn (freshWalk system line) (now (words .entry)) (record { y = now (y .entry); cb = now (cb .entry); cr = now (cr .entry) }) .judgement .number ⌝ }
+    ensures ys { λ r. ⌜ now (y .exit) ≡ inTurn (freshWalk system line) (now (words .entry)) (record { y = now (y .entry); cb = now (cb .entry); cr = now (cr .entry) }) .buffers .y ⌝ }
+    ensures cbs { λ r. ⌜ now (cb .exit) ≡ inTurn (freshWalk system line) (now (words .entry)) (record { y = now (y .entry); cb = now (cb .entry); cr = now (cr .entry) }) .buffers .cb ⌝ }
+    ensures crs { λ r. ⌜ now (cr .exit) ≡ inTurn (freshWalk system line) (now (words .entry)) (record { y = now (y .entry); cb = now (cb .entry); cr = now (cr .entry) }) .buffers .cr ⌝ }
+{
+    let walk = Walk::of(system, line, 0, 0);
+    let judgement = reader::judge(walk, words);
+    if judgement.number != 0 {
+        return judgement.number;
+    }
+    reader::take(walk, words, y, cb, cr).number
 }
 
 #[no_mangle]

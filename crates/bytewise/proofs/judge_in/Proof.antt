@@ -6,7 +6,6 @@ use native.Mathlib.Omega.{arith}
 use denote.Ref.{now}
 use lib.ListN.{length, take}
 use lib.Seq.{length-take-le, take-at}
-use Rattle.refusal.specs.Answer.{none}
 use Rattle.refusal.proofs.Firsts.{same-number, written-accepted}
 use Rattle.words.proofs.Bytes.{pairs-accepted}
 use Rattle.reader.specs.Judge.{judgedOf}
@@ -48,7 +47,7 @@ returns c =
     let held : length (take n (now (a .room))) ≡ n = length-take-le n (now (a .room)) (omega arith) in
     let fits : length (now (a .bytes)) ≡ 2 * length (take n (now (a .room))) = omega (arith, held) in
     c .judge .ensures
-    ∙ ap (judgedOf none (a .walk))
+    ∙ ap (judgedOf (a .walk))
     (take-at (done .last .1 .0) _ n (done .kept .1 .0 ∙ held) ∙ done .ensures .1
     ∙ written-accepted (done .result) _ _ (same-number (done .ensures .0 ∙ pairs-accepted _ _ fits)))
 

@@ -2,7 +2,6 @@
 use borrow.Author.Needs.{needs}
 use mathlib.Core.Path.{ap, _∙_}
 use denote.Ref.{now}
-use Rattle.refusal.specs.Answer.{none}
 use Rattle.system.specs.declared.walk.Walk.{Walk}
 use Rattle.system.specs.declared.walk.Judgement.{Judgement}
 use Rattle.reader.specs.Judge.{judgedOf}
@@ -18,7 +17,7 @@ judge-requires c κs = search needs
 returns : tie.Need-returns
 returns c =
     let words = now (c .before .before .before .args .words) in
-    ap (λ (j : Judgement). j .number) (c .judge .ensures ∙ ap (λ (w : Walk). judgedOf none w words) (c .before .of .ensures))
+    ap (λ (j : Judgement). j .number) (c .judge .ensures ∙ ap (λ (w : Walk). judgedOf w words) (c .before .of .ensures))
 
 pub speed-judge-spec : {M : Type 1} → statement M
 speed-judge-spec = tie.close (tie.spec of-requires judge-requires returns)

@@ -8,16 +8,19 @@ use native.Mathlib.Omega.{arith}
 use lib.Dec.{eqb}
 use lib.ListN.{length}
 use borrow.Author.Tests.{eq-eqb, ne-eqb}
+use Rattle.refusal.proofs.Firsts.{orElse-none, same-number}
 use Rattle.words.specs.Bytes.{wordsOf}
 use Rattle.system.specs.declared.walk.Judgement.{Judgement}
 use Rattle.system.specs.Figures.{systemOf}
 use Rattle.system.specs.Walk.{lineBytes}
 use Rattle.system.proofs.Laws.{line-is-parts}
-use Rattle.reader.proofs.Judged.{accepted, answered}
+use Rattle.reader.proofs.Judged.{accepted}
+use Rattle.bytewise.specs.Bytes.{bytesRefusal}
 use Rattle.confirmation.specs.declared.Run.{Run}
 use Rattle.programme.specs.declared.extractor.Extraction.{Extraction}
 use Rattle.programme.specs.Extract.{roomRefusal, extractedOf, givesRow, rowAfterLine}
 use Rattle.programme.specs.Extraction.{extractionOf, rowAfterNext}
+use Rattle.programme.proofs.ExtractTheorems.{extract-number}
 use Rattle.programme.proofs.extractor.extract_next.Statement.{statement}
 use Rattle.programme.proofs.extractor.extract_next.Tie as tie
 
@@ -38,8 +41,9 @@ module _ (run : Run) (bytes before : List ℕ) where
   long : (j : Judgement) → j ≡ extractedOf (run .walk) bytes (length before) → j .number ≡ 0 → 8 ≤ length bytes
   long j e z =
       let w = run .walk in
-      let well = sym (answered (length bytes) (lineBytes w) (roomRefusal (length before)) w (wordsOf bytes) j e) ∙ z in
-      omega (arith, accepted (length bytes) (lineBytes w) (roomRefusal (length before)) w (wordsOf bytes) well .size, line-is-parts (systemOf (w .system)))
+      let none-refuses = same-number (sym (extract-number w bytes (length before))) ∙ ap (λ (i : Judgement). i .number) (sym e) ∙ z in
+      let well = orElse-none (bytesRefusal w bytes) (roomRefusal (length before)) none-refuses .0 in
+      omega (arith, accepted (length bytes) (lineBytes w) w (wordsOf bytes) well .size, line-is-parts (systemOf (w .system)))
 
   module _ (z : run .number ≡ 0) (j : Judgement) (row : List ℕ) (e : j ≡ extractedOf (run .walk) bytes (length before))
       (r : row ≡ rowAfterLine (run .walk) bytes before) where

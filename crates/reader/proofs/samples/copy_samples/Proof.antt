@@ -1,4 +1,4 @@
--- `reader::take::take` meets its contract. The loop's invariant: each group passed has its samples in their places. Assumes nothing.
+-- `reader::samples::copy_samples` meets its contract. The loop's invariant: each group passed has its samples in their places. Assumes nothing.
 use Prim.Native.Nat.{ℕ, _+_, _-_, _*_, _<_, _≤_}
 use mathlib.Core.Path.{_≡_, refl, ap}
 use mathlib.Core.List.{List}
@@ -8,8 +8,8 @@ use lib.ListN.{length, getD, set, length-set}
 use Rattle.line.specs.Samples.{yLength, cLength}
 use Rattle.words.proofs.Tabs.{is-tab}
 use Rattle.words.proofs.Stores.{store-more}
-use Rattle.reader.proofs.take.take.Statement.{statement}
-use Rattle.reader.proofs.take.take.Tie as tie
+use Rattle.reader.proofs.samples.copy_samples.Statement.{statement}
+use Rattle.reader.proofs.samples.copy_samples.Tie as tie
 
 -- the samples of k groups are taken
 record Taken (words : List ℕ) (active : ℕ) (y cb cr : List ℕ) (k : ℕ) : Type 0 where
@@ -157,8 +157,8 @@ returns c =
       ),
     )
 
-pub take-spec : {M : Type 1} → statement M
-take-spec =
+pub copy-samples-spec : {M : Type 1} → statement M
+copy-samples-spec =
     tie.close
     (tie.spec
     Inv-loop
