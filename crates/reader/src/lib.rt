@@ -9,10 +9,9 @@ ghost use lib.ListN.{length};
 ghost use Rattle.timing.specs.Code.{correctionOf};
 ghost use Rattle.timing.specs.Report.{codeReportOf};
 ghost use Rattle.system.specs.Figures.{lineLength};
-ghost use Rattle.reader.specs.Judge.{reportOf, judgeRefusal, judgedOf, activeOf};
+ghost use Rattle.reader.specs.Judge.{reportOf, judgedOf, activeOf};
 use crate::pass::first_fault;
 use line::ACTIVE_LENGTH;
-use refusal::Refusal;
 pub use samples::take;
 use system::Due;
 use system::Judgement;
@@ -39,26 +38,19 @@ fn report(d: Due, words: &[u16]) -> Report
     Report { eav, sav }
 }
 
-// What refuses the line that a walk awaits: 1, 2, 4, 3 at place 0, then the lowest offset with a fault.
-fn line_refusal(walk: Walk, words: &[u16]) -> Refusal
-    ensures { λ r. ⌜ r ≡ judgeRefusal walk (now (words .entry)) ⌝ }
-{
-    let standing = walk.standing(words.len(), walk.line_words());
-    if standing.number != 0 {
-        return standing;
-    }
-    first_fault(walk.due(words[3]), words)
-}
-
-// Judges the line that a walk awaits. A refusal leaves the walk standing.
+// Judges the line that a walk awaits: 1, 2, 4, 3 at place 0, then the lowest offset with a fault. A refusal leaves the walk standing.
 pub fn judge(walk: Walk, words: &[u16]) -> Judgement
     ensures { λ r. ⌜ r ≡ judgedOf walk (now (words .entry)) ⌝ }
 {
-    let refusal = line_refusal(walk, words);
-    if refusal.number != 0 {
-        return Judgement::refused(walk, refusal);
+    let standing = walk.standing(words.len(), walk.line_words());
+    if standing.number != 0 {
+        return Judgement::refused(walk, standing);
     }
     let due = walk.due(words[3]);
+    let fault = first_fault(due, words);
+    if fault.number != 0 {
+        return Judgement::refused(walk, fault);
+    }
     Judgement::accepted(walk, due, report(due, words))
 }
 
@@ -66,7 +58,7 @@ pub fn judge(walk: Walk, words: &[u16]) -> Judgement
 pub fn active(walk: Walk, words: &[u16]) -> &[u16]
     ensures { λ r. ⌜ now r ≡ activeOf walk (now (words .entry)) ⌝ }
 {
-    if line_refusal(walk, words).number != 0 {
+    if judge(walk, words).number != 0 {
         return &words[0..0];
     }
     let start = system::system_of(walk.system).active_offset();

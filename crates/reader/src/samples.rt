@@ -7,7 +7,7 @@ ghost use Rattle.line.specs.Lengths.{bufferRefusal};
 ghost use Rattle.line.specs.Samples.{activeLength, yLength, cLength, ysFrom, cbsFrom, crsFrom};
 ghost use Rattle.reader.specs.Judge.{judgeRefusal};
 ghost use Rattle.reader.specs.Take.{takeRefusal, takenOf};
-use crate::line_refusal;
+use crate::judge;
 use line::ACTIVE_LENGTH;
 use refusal::Refusal;
 use system::Walk;
@@ -35,10 +35,13 @@ fn copy_samples(words: &[u16], active: usize, y: &mut [u16], cb: &mut [u16], cr:
 fn take_refusal(walk: Walk, words: &[u16], y: usize, cb: usize, cr: usize) -> Refusal
     ensures { λ r. ⌜ r ≡ orElse (judgeRefusal walk (now (words .entry))) (bufferRefusal y cb cr) ⌝ }
 {
-    let judged = line_refusal(walk, words);
+    let judgement = judge(walk, words);
     let buffers = line::buffer_refusal(y, cb, cr);
-    if judged.number != 0 {
-        return judged;
+    if judgement.number != 0 {
+        return Refusal {
+            number: judgement.number,
+            place: judgement.place,
+        };
     }
     buffers
 }

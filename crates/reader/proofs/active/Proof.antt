@@ -6,26 +6,26 @@ use mathlib.Core.List.{List, []}
 use native.Mathlib.Omega.{arith}
 use denote.Ref.{now}
 use lib.ListN.{length, take, drop}
-use Rattle.refusal.specs.declared.Refusal.{Refusal}
-use Rattle.refusal.proofs.Firsts.{same-number}
 use Rattle.system.specs.declared.System.{System}
 use Rattle.system.specs.declared.walk.Walk.{Walk}
 use Rattle.system.specs.Figures.{activeOffset, systemOf}
 use Rattle.system.proofs.Laws.{sav-high}
+use Rattle.system.specs.Walk.{lineWords}
 use Rattle.line.specs.Samples.{activeLength}
-use Rattle.reader.specs.Judge.{judgeRefusal, activeOf}
-use Rattle.reader.proofs.Judged.{active-fits, active-refused, active-accepted}
+use Rattle.system.specs.declared.walk.Judgement.{Judgement}
+use Rattle.reader.specs.Judge.{judgeRefusal, judgedOf, activeOf}
+use Rattle.reader.proofs.Judged.{active-fits, answered, active-refused, active-accepted}
 use Rattle.reader.proofs.active.Statement.{statement}
 use Rattle.reader.proofs.active.Tie as tie
 
--- what refuses the line, and where its active part starts
-module _ (w : Walk) (words : List ℕ) (r : Refusal) (is-refusal : r ≡ judgeRefusal w words) where
-  nothing : (r .number ≡ 0 → ⊥) → [] ≡ activeOf w words
-  nothing n = sym (active-refused w words (λ z. n (same-number is-refusal ∙ z)))
+-- the line that was judged, and where its active part starts
+module _ (w : Walk) (words : List ℕ) (j : Judgement) (is-judged : j ≡ judgedOf w words) where
+  nothing : (j .number ≡ 0 → ⊥) → [] ≡ activeOf w words
+  nothing n = sym (active-refused w words (λ z. n (answered (length words) (lineWords w) w words j is-judged ∙ z)))
 
-  module _ (z : r .number ≡ 0) (s : System) (is-system : s ≡ systemOf (w .system)) (start : ℕ) (is-start : start ≡ activeOffset s) where
+  module _ (z : j .number ≡ 0) (s : System) (is-system : s ≡ systemOf (w .system)) (start : ℕ) (is-start : start ≡ activeOffset s) where
     well : judgeRefusal w words .number ≡ 0
-    well = sym (same-number is-refusal) ∙ z
+    well = sym (answered (length words) (lineWords w) w words j is-judged) ∙ z
 
     start-due : start ≡ activeOffset (systemOf (w .system))
     start-due = is-start ∙ ap activeOffset is-system
@@ -38,8 +38,8 @@ module _ (w : Walk) (words : List ℕ) (r : Refusal) (is-refusal : r ≡ judgeRe
         let e : start + activeLength - start ≡ activeLength = omega arith in
         rw (e, start-due) (sym (active-accepted w words well))
 
-line-refusal-requires : tie.Need-line-refusal-requires
-line-refusal-requires c κs = search needs
+judge-requires : tie.Need-judge-requires
+judge-requires c κs = search needs
 
 sub-result : tie.Need-sub-result
 sub-result c = search needs
@@ -52,9 +52,9 @@ part-result-end c = search needs
 
 returns : tie.Need-returns
 returns c =
-    let line = c .before .before .before in
-    let a = line .before .before .args in
-    nothing (a .walk) (now (a .words)) _ (line .line-refusal .ensures) (c .before .if1 .taken)
+    let judged = c .before .before .before in
+    let a = judged .before .before .args in
+    nothing (a .walk) (now (a .words)) _ (judged .judge .ensures) (c .before .if1 .taken)
 
 system-of-requires : tie.Need-system-of-requires
 system-of-requires c κs = search needs
@@ -76,22 +76,22 @@ part-result-start-2 c = search needs
 
 part-result-end-2 : tie.Need-part-result-end-2
 part-result-end-2 c =
-    let line = c .before .before .before .before in
-    let a = line .before .before .args in
-    omega (arith, fits (a .walk) (now (a .words)) _ (line .line-refusal .ensures) (c .before .before .if1 .left) _ (c .before .system-of .ensures) _ (c .active-offset .ensures))
+    let judged = c .before .before .before .before in
+    let a = judged .before .before .args in
+    omega (arith, fits (a .walk) (now (a .words)) _ (judged .judge .ensures) (c .before .before .if1 .left) _ (c .before .system-of .ensures) _ (c .active-offset .ensures))
 
 returns-2 : tie.Need-returns-2
 returns-2 c =
     let start = c .before in
-    let line = start .before .before .before .before in
-    let a = line .before .before .args in
-    part (a .walk) (now (a .words)) _ (line .line-refusal .ensures) (start .before .before .if1 .left) _ (start .before .system-of .ensures) _ (start .active-offset .ensures)
+    let judged = start .before .before .before .before in
+    let a = judged .before .before .args in
+    part (a .walk) (now (a .words)) _ (judged .judge .ensures) (start .before .before .if1 .left) _ (start .before .system-of .ensures) _ (start .active-offset .ensures)
 
 pub active-spec : {M : Type 1} → statement M
 active-spec =
     tie.close
     (tie.spec
-    line-refusal-requires
+    judge-requires
     sub-result
     part-result-start
     part-result-end

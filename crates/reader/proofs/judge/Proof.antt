@@ -1,5 +1,4 @@
--- `reader::judge` meets its contract: refused as the line is, or accepted with its report. Assumes nothing.
-use borrow.Author.Needs.{needs}
+-- `reader::judge` meets its contract: each refusal in its turn, by the laws of the judgement. Assumes nothing.
 use Prim.Native.Nat.{ℕ, _<_}
 use mathlib.Core.Path.{_≡_, sym, ap, _∙_}
 use mathlib.Core.List.{List}
@@ -11,85 +10,132 @@ use Rattle.refusal.proofs.Firsts.{same-number}
 use Rattle.timing.specs.declared.Report.{Report}
 use Rattle.system.specs.declared.due.Due.{Due}
 use Rattle.system.specs.declared.walk.Walk.{Walk}
-use Rattle.system.specs.Figures.{lineLength}
-use Rattle.system.specs.Walk.{lineWords, dueIn}
+use Rattle.system.specs.Figures.{lineLength, systemOf}
+use Rattle.system.specs.Walk.{standingRefusal, lineWords, dueIn}
 use Rattle.system.specs.Judgement.{refusedAt, movedAt}
-use Rattle.system.proofs.Laws.{due-system}
-use Rattle.reader.specs.Judge.{reportOf, judgeRefusal, judgedOf}
-use Rattle.reader.proofs.Judged.{accepted, active-fits, judged-refused, judged-moved}
+use Rattle.system.proofs.Laws.{line-is-parts, due-system, accepted-stood}
+use Rattle.line.specs.Fault.{wordRefusal}
+use Rattle.reader.specs.Judge.{lineRefusal, reportOf, judgedOf}
+use Rattle.reader.proofs.Judged.{line-standing, line-words, judged-refused, judged-moved}
 use Rattle.reader.proofs.judge.Statement.{statement}
 use Rattle.reader.proofs.judge.Tie as tie
 
--- what refuses the line, and what is due in it
-module _ (w : Walk) (words : List ℕ) (r : Refusal) (is-refusal : r ≡ judgeRefusal w words) where
-  refused : (r .number ≡ 0 → ⊥) → refusedAt w r ≡ judgedOf w words
-  refused n = sym (judged-refused (length words) (lineWords w) w words r (sym is-refusal) n)
+-- what the calls answered: what refuses the line before its words are looked at, what is due in it, and its first fault
+module _ (w : Walk) (words : List ℕ) (size : ℕ) (is-size : size ≡ lineWords w) (r : Refusal)
+    (is-standing : r ≡ standingRefusal w (length words) size) where
+  standing-due : r ≡ standingRefusal w (length words) (lineWords w)
+  standing-due = is-standing ∙ ap (standingRefusal w (length words)) is-size
+
+  refused-standing : (r .number ≡ 0 → ⊥) → refusedAt w r ≡ judgedOf w words
+  refused-standing n =
+      sym
+      (judged-refused (length words) (lineWords w) w words r
+      (line-standing (length words) (lineWords w) w words (λ z. n (same-number standing-due ∙ z)) ∙ sym standing-due) n)
 
   module _ (z : r .number ≡ 0) where
-    well : judgeRefusal w words .number ≡ 0
-    well = sym (same-number is-refusal) ∙ z
+    stands : standingRefusal w (length words) (lineWords w) .number ≡ 0
+    stands = sym (same-number standing-due) ∙ z
+
+    -- the line has its words
+    whole : length words ≡ lineWords w
+    whole = accepted-stood w (length words) (lineWords w) stands .size
 
     long : 3 < length words
-    long = omega (arith, active-fits w words well)
+    long = omega (arith, whole, line-is-parts (systemOf (w .system)))
 
     module _ (d : Due) (is-due : d ≡ dueIn w words) where
       of-system : length words ≡ lineLength (d .system)
-      of-system =
-          accepted (length words) (lineWords w) w words well .size
-          ∙ ap lineLength (sym (due-system w (getD words 3 0)) ∙ ap (λ (x : Due). x .system) (sym is-due))
+      of-system = whole ∙ ap lineLength (sym (due-system w (getD words 3 0)) ∙ ap (λ (x : Due). x .system) (sym is-due))
 
-      accepted-line : (report : Report) → report ≡ reportOf d words → movedAt w d report ≡ judgedOf w words
-      accepted-line report is-report =
-          ap (movedAt w d) is-report ∙ ap (λ (x : Due). movedAt w x (reportOf x words)) is-due
-          ∙ sym (judged-moved (length words) (lineWords w) w words well)
+      module _ (f : Refusal) (is-fault : f ≡ wordRefusal d words) where
+        fault-due : lineRefusal (length words) (lineWords w) w words ≡ f
+        fault-due = line-words (length words) (lineWords w) w words stands ∙ ap (λ (x : Due). wordRefusal x words) (sym is-due) ∙ sym is-fault
 
-line-refusal-requires : tie.Need-line-refusal-requires
-line-refusal-requires c κs = search needs
+        refused-words : (f .number ≡ 0 → ⊥) → refusedAt w f ≡ judgedOf w words
+        refused-words n = sym (judged-refused (length words) (lineWords w) w words f fault-due n)
+
+        accepted-words : (report : Report) → f .number ≡ 0 → report ≡ reportOf d words → movedAt w d report ≡ judgedOf w words
+        accepted-words report well is-report =
+            ap (movedAt w d) is-report ∙ ap (λ (x : Due). movedAt w x (reportOf x words)) is-due
+            ∙ sym (judged-moved (length words) (lineWords w) w words (same-number fault-due ∙ well))
+
+line-words-requires : tie.Need-line-words-requires
+line-words-requires c κs = tt
+
+standing-requires : tie.Need-standing-requires
+standing-requires c κs = tt
 
 refused-requires : tie.Need-refused-requires
-refused-requires c κs = search needs
+refused-requires c κs = tt
 
 returns : tie.Need-returns
 returns c =
-    let line = c .before .before .before in
-    let a = line .before .before .args in
-    c .refused .ensures ∙ refused (a .walk) (now (a .words)) _ (line .line-refusal .ensures) (c .before .if1 .taken)
+    let standing = c .before .before .before in
+    let a = standing .before .before .before .args in
+    c .refused .ensures
+    ∙ refused-standing (a .walk) (now (a .words)) _ (standing .before .line-words .ensures) _ (standing .standing .ensures) (c .before .if1 .taken)
 
 shared-slice-read-due : tie.Need-shared-slice-read-due
 shared-slice-read-due c =
-    let line = c .before .before .before in
-    let a = line .before .before .args in
-    long (a .walk) (now (a .words)) _ (line .line-refusal .ensures) (c .before .if1 .left)
+    let standing = c .before .before .before in
+    let a = standing .before .before .before .args in
+    long (a .walk) (now (a .words)) _ (standing .before .line-words .ensures) _ (standing .standing .ensures) (c .before .if1 .left)
 
 due-requires : tie.Need-due-requires
-due-requires c κs = search needs
+due-requires c κs = tt
 
-report-requires : tie.Need-report-requires
-report-requires c κs =
-    let line = c .before .before .before .before in
-    let a = line .before .before .args in
-    of-system (a .walk) (now (a .words)) _ (line .line-refusal .ensures) (c .before .before .if1 .left) _ (c .due .ensures)
+first-fault-requires : tie.Need-first-fault-requires
+first-fault-requires c κs =
+    let standing = c .before .before .before .before in
+    let a = standing .before .before .before .args in
+    of-system (a .walk) (now (a .words)) _ (standing .before .line-words .ensures) _ (standing .standing .ensures)
+    (c .before .before .if1 .left) _ (c .due .ensures)
 
-accepted-requires : tie.Need-accepted-requires
-accepted-requires c κs = search needs
+refused-requires-2 : tie.Need-refused-requires-2
+refused-requires-2 c κs = tt
 
 returns-2 : tie.Need-returns-2
 returns-2 c =
-    let line = c .before .before .before .before .before .before in
-    let a = line .before .before .args in
+    let looked = c .before .before .before in
+    let standing = looked .before .before .before .before .before in
+    let a = standing .before .before .before .args in
+    c .refused2 .ensures
+    ∙ refused-words (a .walk) (now (a .words)) _ (standing .before .line-words .ensures) _ (standing .standing .ensures)
+    (looked .before .before .before .if1 .left) _ (looked .before .due .ensures) _ (looked .first-fault .ensures) (c .before .if2 .taken)
+
+report-requires : tie.Need-report-requires
+report-requires c κs =
+    let looked = c .before .before in
+    let standing = looked .before .before .before .before .before in
+    let a = standing .before .before .before .args in
+    of-system (a .walk) (now (a .words)) _ (standing .before .line-words .ensures) _ (standing .standing .ensures)
+    (looked .before .before .before .if1 .left) _ (looked .before .due .ensures)
+
+accepted-requires : tie.Need-accepted-requires
+accepted-requires c κs = tt
+
+returns-3 : tie.Need-returns-3
+returns-3 c =
+    let looked = c .before .before .before .before in
+    let standing = looked .before .before .before .before .before in
+    let a = standing .before .before .before .args in
     c .accepted .ensures
-    ∙ accepted-line (a .walk) (now (a .words)) _ (line .line-refusal .ensures) (c .before .before .before .before .if1 .left) _
-    (c .before .before .due .ensures) _ (c .before .report .ensures)
+    ∙ accepted-words (a .walk) (now (a .words)) _ (standing .before .line-words .ensures) _ (standing .standing .ensures)
+    (looked .before .before .before .if1 .left) _ (looked .before .due .ensures) _ (looked .first-fault .ensures) _ (c .before .before .if2 .left) (c .before .report .ensures)
 
 pub judge-spec : {M : Type 1} → statement M
 judge-spec =
     tie.close
     (tie.spec
-    line-refusal-requires
+    line-words-requires
+    standing-requires
     refused-requires
     returns
     shared-slice-read-due
     due-requires
+    first-fault-requires
+    refused-requires-2
+    returns-2
     report-requires
     accepted-requires
-    returns-2)
+    returns-3)
