@@ -46,8 +46,8 @@ fn take_refusal(walk: Walk, words: &[u16], y: usize, cb: usize, cr: usize) -> Re
     buffers
 }
 
-// Takes the samples of the line that a walk awaits: they are written where it judges well, the buffers have their lengths and its V is 0. Where
-// this is refused the walk stands, also after a judgement that accepts.
+// Takes the samples of the line that a walk awaits, where it judges well, the buffers have their lengths and its V is 0. Refused as judging
+// refuses it, then with 3 for a buffer's length; the walk then stands, though judging may have accepted.
 pub fn take(walk: Walk, words: &[u16], y: &mut [u16], cb: &mut [u16], cr: &mut [u16]) -> Refusal
     ensures answer { λ r. ⌜ r ≡ takeRefusal walk (now (words .entry)) (record { y = now (y .entry); cb = now (cb .entry); cr = now (cr .entry) }) ⌝ }
     ensures ys { λ r. ⌜ now (y .exit) ≡ takenOf walk (now (words .entry)) (record { y = now (y .entry); cb = now (cb .entry); cr = now (cr .entry) }) .y ⌝ }
