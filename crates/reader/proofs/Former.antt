@@ -15,10 +15,10 @@ use Rattle.refusal.specs.Table.{Row, Keeps}
 use Rattle.refusal.proofs.Cases.{by-test}
 use Rattle.refusal.proofs.Firsts.{orElse-accepted, orElse-refused, same-number}
 use Rattle.refusal.proofs.Tables.{alone}
+use Rattle.words.specs.Words.{tabFrom, tab}
 use Rattle.timing.specs.Refusals.{fourthRefusals}
 use Rattle.system.specs.declared.due.Due.{Due}
 use Rattle.system.specs.declared.walk.Walk.{Walk}
-use Rattle.words.specs.Words.{tabFrom, tab}
 use Rattle.system.specs.Figures.{isSystem, systemOf}
 use Rattle.system.specs.Walk.{walkRefusal, namedRefusal, isLine, standingRefusal, lineWords, dueIn, freshWalk}
 use Rattle.system.specs.Judgement.{refusedAt, judgementOf}

@@ -13,7 +13,6 @@ use Rattle.system.specs.declared.walk.Judgement.{Judgement}
 use Rattle.system.specs.Figures.{activeOffset, systemOf}
 use Rattle.system.specs.Walk.{lineWords, dueIn}
 use Rattle.system.specs.Judgement.{refusedAt, acceptedAt}
-use Rattle.system.proofs.Laws.{judgement-accepted, judgement-refused}
 use Rattle.line.specs.Samples.{Samples, activeLength, samplesOf}
 use Rattle.line.specs.Fit.{Measured}
 use Rattle.line.proofs.Theorems.{buffer-exact, buffer-decides}

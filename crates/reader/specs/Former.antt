@@ -3,7 +3,6 @@ use Prim.Native.Nat.{ℕ}
 use mathlib.Core.Path.{_≡_}
 use mathlib.Core.List.{List, [], _∷_}
 use lib.ListN.{length}
-use Rattle.refusal.specs.declared.Refusal.{Refusal}
 use Rattle.refusal.specs.Answer.{firstOf}
 use Rattle.system.specs.declared.walk.Walk.{Walk}
 use Rattle.system.specs.Walk.{standingRefusal, lineWords, dueIn}

@@ -10,7 +10,6 @@ use lib.Dec.{eqb}
 use lib.ListN.{length, take, drop, length-append, length-drop, length-map, take-append-drop}
 use lib.Seq.{take-at, drop-at}
 use borrow.Author.Tests.{eqb-true, eqb-false}
-use Rattle.refusal.specs.declared.Refusal.{Refusal}
 use Rattle.refusal.proofs.Cases.{by-test}
 use Rattle.system.specs.declared.walk.Walk.{Walk}
 use Rattle.system.specs.Figures.{lineLength, systemOf}
@@ -22,9 +21,9 @@ use Rattle.system.specs.declared.walk.Judgement.{Judgement}
 use Rattle.words.specs.Bytes.{wordsOf}
 use Rattle.bytewise.specs.Bytes.{judgedBytes}
 use Rattle.bytewise.proofs.Judged.{judged-count}
+use Rattle.reader.specs.Take.{inTurn}
 use Rattle.reader.proofs.Judged.{accepted, judged-accepted, number-judged}
 use Rattle.reader.proofs.Taken.{measured-turn}
-use Rattle.refusal.specs.Answer.{none}
 use Rattle.refusal.proofs.Firsts.{same-number}
 use Rattle.bytewise.proofs.Theorems.{bytes-as-words}
 use Rattle.confirmation.specs.declared.Run.{Run}
@@ -32,7 +31,6 @@ use Rattle.confirmation.specs.Run.{headerLength, headerSystem, headerStart, beg
 use Rattle.confirmation.proofs.Nexts.{endedWith, next-line-bytes}
 use Rattle.confirmation.proofs.Bodies.{line-has-bytes, body-ended, body-none, body-next, body-last, body-barred}
 use Rattle.recording.specs.Recording.{Recording, end, next, lineAfterAll, TwoInverted}
-use Rattle.reader.specs.Take.{inTurn}
 use Rattle.recording.specs.Play.{Played, stoppedBy, play}
 use Rattle.recording.specs.Confirmed.{Holds}
 use Rattle.recording.proofs.OneLine.{accepted-judgement, buffers-measured}

@@ -18,12 +18,12 @@ use Rattle.system.specs.Walk.{lineWords, lineBytes, advancedOf, dueIn}
 use Rattle.system.proofs.Laws.{due-system}
 use Rattle.line.specs.Samples.{Samples, activeLength}
 use Rattle.line.specs.Fit.{Measured}
+use Rattle.reader.specs.Take.{inTurn}
 use Rattle.reader.proofs.Taken.{measured-turn}
 use Rattle.bytewise.proofs.Theorems.{bytes-as-words}
 use Rattle.v210.specs.Row.{rowLength, packedOf}
 use Rattle.programme.specs.Extract.{extractedOf, givesRow, rowOfLine}
 use Rattle.programme.proofs.ExtractTheorems.{extract-as-judged}
-use Rattle.reader.specs.Take.{inTurn}
 use Rattle.recording.specs.Play.{Played, andThen, play}
 use Rattle.recording.specs.Programme.{Extracted, rowThen, refusedBy, extractAll, rowOf, Whole}
 use Rattle.recording.proofs.OneLine.{accepted-judgement, picture-buffers, buffers-measured, answered-accepted}

@@ -2,7 +2,7 @@
 use Prim.Native.Nat.{ℕ}
 use mathlib.Core.Path.{_≡_, refl, sym, _∙_}
 use mathlib.Core.List.{List}
-use mathlib.Core.Bool.{true, false}
+use mathlib.Core.Bool.{false}
 use lib.ListN.{length}
 use Rattle.refusal.specs.declared.Refusal.{Refusal}
 use Rattle.refusal.specs.Answer.{none}
@@ -20,10 +20,10 @@ use Rattle.line.specs.Fit.{Measured}
 use Rattle.line.proofs.Places.{taken-measured}
 use Rattle.reader.specs.Judge.{judgeRefusal, reportOf}
 use Rattle.reader.specs.Left.{Advances}
+use Rattle.reader.specs.Take.{inTurn}
 use Rattle.reader.proofs.Judged.{line-words, accepted, judged-accepted, judged-refused}
 use Rattle.reader.proofs.Taken.{take-well, measured-turn}
 use Rattle.reader.proofs.Theorems.{turn-number, accepted-advances}
-use Rattle.reader.specs.Take.{inTurn}
 
 -- what is due where a line is read is what was due where it was written
 pub due-at-walk : (w : Walk) (words : List ℕ) → dueIn w words ≡ dueOf (systemOf (w .system)) (w .line)
