@@ -1,6 +1,6 @@
 -- The statement of specs/Former holds: judging and taking in turn differ from the former order exactly where a word is refused and a buffer
 -- has a wrong length. Assumes nothing.
-use Prim.Native.Nat.{ℕ}
+use Prim.Native.Nat.{ℕ, _+_}
 use mathlib.Core.Path.{_≡_, refl, sym, ap, _∙_}
 use mathlib.Core.List.{List, [], _∷_}
 use mathlib.Core.Logic.{inl, inr}
@@ -15,11 +15,12 @@ use Rattle.refusal.specs.Table.{Row, Keeps}
 use Rattle.refusal.proofs.Cases.{by-test}
 use Rattle.refusal.proofs.Firsts.{orElse-accepted, orElse-refused, same-number}
 use Rattle.refusal.proofs.Tables.{alone}
-use Rattle.words.specs.Words.{tabFrom, tab}
+use Rattle.words.specs.Words.{tabFrom, tab, mostWord}
 use Rattle.timing.specs.Refusals.{fourthRefusals}
 use Rattle.system.specs.declared.due.Due.{Due}
 use Rattle.system.specs.declared.walk.Walk.{Walk}
-use Rattle.system.specs.Figures.{isSystem, systemOf}
+use Rattle.system.specs.declared.System.the-variants.{Lines525}
+use Rattle.system.specs.Figures.{systemNumber, lineLength, isSystem, systemOf}
 use Rattle.system.specs.Walk.{walkRefusal, namedRefusal, isLine, standingRefusal, lineWords, dueIn, freshWalk}
 use Rattle.system.specs.Judgement.{refusedAt, judgementOf}
 use Rattle.system.proofs.Laws.{judgement-number}
@@ -154,6 +155,6 @@ order-amended w words b =
     }
 
 -- that there is such a line: words over 1023, and no room for samples
-pub both-met : Both (freshWalk 525 1) (tab 1716 (λ i. 1024)) (record { y = []; cb = []; cr = [] })
+pub both-met : Both (freshWalk (systemNumber Lines525) 1) (tab (lineLength Lines525) (λ i. mostWord + 1)) (record { y = []; cb = []; cr = [] })
 unfolding walkRefusal namedRefusal isSystem isLine systemOf orElse wordRefusal firstFrom faultAt faultWhere bufferRefusal tabFrom
 both-met = record { stands = refl; word = λ e. omega (arith, e); buffer = λ e. omega (arith, e) }

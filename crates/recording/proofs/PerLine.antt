@@ -7,7 +7,10 @@ use native.Mathlib.Omega.{arith}
 use lib.Dec.{eqb}
 use lib.ListN.{length, getD}
 use borrow.Author.Tests.{ne-eqb}
+use Rattle.refusal.specs.Numbers.{wrongLength}
+use Rattle.refusal.specs.Answer.{orElse}
 use Rattle.refusal.proofs.Cases.{by-test}
+use Rattle.refusal.proofs.Firsts.{orElse-accepted}
 use Rattle.timing.specs.Code.{legalOf, sevenOf, distanceOf, correctionOf}
 use Rattle.timing.specs.Report.{codeReportOf, bitTold, cleanReport}
 use Rattle.timing.proofs.Laws.{one-repair}
@@ -15,7 +18,9 @@ use Rattle.system.specs.declared.walk.Walk.{Walk}
 use Rattle.system.specs.Figures.{lineLength, savOffset, vOf, systemOf}
 use Rattle.system.proofs.Laws.{Good}
 use Rattle.system.specs.Due.{dueOf, flagsOf}
+use Rattle.system.specs.Walk.{lineWords}
 use Rattle.line.specs.Samples.{Samples, samplesOf}
+use Rattle.line.specs.Lengths.{bufferRefusal}
 use Rattle.line.specs.Fit.{Measured}
 use Rattle.line.specs.Damage.{Damaged, toldOf}
 use Rattle.line.proofs.Images.{repairsAt, undamaged}
@@ -24,9 +29,10 @@ use Rattle.system.specs.Judgement.{acceptedAt}
 use Rattle.writer.specs.Write.{writeRefusal, lineAfter}
 use Rattle.writer.proofs.Theorems.{accepted-writes-the-line}
 use Rattle.recording.specs.Recording.{invertedBit}
-use Rattle.reader.specs.Judge.{judgedOf}
+use Rattle.reader.specs.Judge.{judgeRefusal, judgedOf}
 use Rattle.reader.specs.Take.{takeRefusal, inTurn}
-use Rattle.reader.proofs.Taken.{then-refused}
+use Rattle.reader.proofs.Judged.{number-judged}
+use Rattle.reader.proofs.Taken.{then-refused, measured-turn}
 use Rattle.recording.specs.Play.{stoppedBy, play}
 use Rattle.recording.proofs.OneLine.{answered-accepted}
 use Rattle.recording.proofs.Lines.{line-read, line-accepted, reported, clean-reported, samples-returned}
@@ -114,6 +120,18 @@ module _ (w : Walk) (good : Good w) (b : Samples) (m : Measured b) where
       let size = length (lineAfter (w .system) (w .line) p buffer) in
       let low : size ≤ lineLength (systemOf (w .system)) = omega arith in
       line-accepted w good b m p buffer read eav sav size written low dam whole he hs
+
+  -- What judging accepts, taking may still refuse: a line that the writer left, and no room for its samples.
+  pub written-line-no-room : (p : Samples) (buffer : List ℕ) → writeRefusal (w .system) (w .line) p (length buffer) .number ≡ 0
+      → (judgedOf w (lineAfter (w .system) (w .line) p buffer) .number ≡ 0)
+      × (takeRefusal w (lineAfter (w .system) (w .line) p buffer) (record { y = []; cb = []; cr = [] }) ≡ record { number = wrongLength; place = 1 })
+  unfolding bufferRefusal orElse
+  written-line-no-room p buffer written =
+      let line = lineAfter (w .system) (w .line) p buffer in
+      let answer = sym (measured-turn w line b m) ∙ written-line-reads-back p buffer written .0 in
+      let accepts = ap (λ (j : Judgement). j .number) answer in
+      let well = sym (number-judged (length line) (lineWords w) w line) ∙ accepts in
+      (accepts, orElse-accepted (judgeRefusal w line) _ well)
 
 -- Where taking a line is refused, by the judge or for a buffer's length, playing ends there with taking's answer, and the walk stands.
 pub refused-taking-ends : (w : Walk) (b : Samples) (words : List ℕ) (rest : List (List ℕ)) → (takeRefusal w words b .number ≡ 0 → ⊥)
