@@ -1,7 +1,8 @@
 /* The speed of Fiskrogn beside memcpy and plain C, measured side by side in one run. Prints ratios, never times. Before a table is measured
  * every result of its rows is compared with plain C's.
  * usage: bench [MIB]    how much material to stream, 40 MiB unless told; with 1 it is a test of that comparison.
- *        bench record SYSTEM START LINES clean|repaired    a recording to standard output, with one bit inverted in no code or in each. */
+ *        bench record SYSTEM START LINES clean|repaired|long|short    a recording to standard output, clean, with one bit inverted in each code,
+ *                     or with the space between EAV and SAV of every line one long packet, or packets without user words. */
 #include "../include/fiskrogn.h"
 
 #include <stdio.h>
@@ -15,7 +16,8 @@ uint32_t speed_take(uint32_t system, uint32_t line, const uint16_t *words, size_
 uint32_t speed_in_turn(uint32_t system, uint32_t line, const uint16_t *words, size_t count, uint16_t *y, size_t ys, uint16_t *cb,
                        size_t cbs, uint16_t *cr, size_t crs);
 uint32_t speed_write(uint32_t system, uint32_t line, const uint16_t *y, size_t ys, const uint16_t *cb, size_t cbs,
-                     const uint16_t *cr, size_t crs, uint16_t *words, size_t count);
+                     const uint16_t *cr, size_t crs, const uint16_t *between, size_t betweens, const uint16_t *active, size_t actives,
+                     uint16_t *words, size_t count);
 uint32_t speed_code(const uint16_t *words, size_t count, uint16_t *out, size_t room);
 uint32_t speed_decode(const uint16_t *words, size_t count, uint16_t *out, size_t room);
 
@@ -36,6 +38,12 @@ static uint16_t *store, *target;
 static size_t count; /* lines */
 static uint16_t y[Y_SAMPLES], cb[C_SAMPLES], cr[C_SAMPLES];
 
+/* the packets of every line, ready to be written: none, one long one, or as many without user words as the space between holds */
+enum Packets { NO_PACKETS, LONG_PACKET, SHORT_PACKETS };
+enum { HEADER = 6, MOST_USERS = 255, MOST_READY = 280 };
+static uint16_t ready[MOST_READY];
+static size_t ready_words;
+
 static uint32_t number_of(size_t k) { return (uint32_t)(k % now->lines + 1); }
 
 static uint16_t sample(void) {
@@ -47,6 +55,28 @@ static uint16_t sample(void) {
 static void draw_samples(void) {
     for (size_t i = 0; i < Y_SAMPLES; i++) y[i] = sample();
     for (size_t i = 0; i < C_SAMPLES; i++) cb[i] = sample(), cr[i] = sample();
+}
+
+static uint16_t inverted(unsigned nine) { return (uint16_t)(nine | (nine >> 8 ^ 1) << 9); }
+
+static uint16_t header_word(unsigned byte) { return inverted(byte | (unsigned)__builtin_parity(byte) << 8); }
+
+static size_t put_packet(uint16_t *w, size_t users) {
+    const uint16_t header[HEADER] = {0, LAST_WORD, LAST_WORD, header_word(0x61), header_word(0x01), header_word((unsigned)users)};
+    memcpy(w, header, sizeof header);
+    for (size_t i = 0; i < users; i++) w[HEADER + i] = sample();
+    unsigned sum = 0;
+    for (size_t i = 3; i < HEADER + users; i++) sum += w[i] & 511;
+    w[HEADER + users] = inverted(sum & 511);
+    return HEADER + users + 1;
+}
+
+static void make_ready(enum Packets packets) {
+    size_t room = now->sav - CODE;
+    ready_words = 0;
+    if (packets == LONG_PACKET) ready_words = put_packet(ready, MOST_USERS);
+    if (packets == SHORT_PACKETS)
+        while (ready_words + HEADER + 1 <= room) ready_words += put_packet(ready + ready_words, 0);
 }
 
 static void check(int right, const char *what) {
@@ -75,6 +105,7 @@ static void plain_code(uint16_t *w, uint16_t last) { w[0] = LAST_WORD, w[1] = 0,
 
 static void plain_write(const System *s, uint32_t line, uint16_t *w) {
     for (size_t i = 0; i < s->words; i++) w[i] = fill(i);
+    memcpy(w + CODE, ready, 2 * ready_words);
     plain_code(w, fourth(s, line, 1));
     plain_code(w + s->sav, fourth(s, line, 0));
     if (is_blank(s, line)) return;
@@ -84,11 +115,35 @@ static void plain_write(const System *s, uint32_t line, uint16_t *w) {
     }
 }
 
+/* the words of the packet at w, of which so many are left, or 0 where it is no good one */
+static size_t plain_packet(const uint16_t *w, size_t left) {
+    size_t users = w[5] & 255;
+    unsigned sum = 0;
+    for (size_t i = 3; i < HEADER; i++)
+        if (w[i] != header_word(w[i] & 255)) return 0;
+    if (left < HEADER + users + 1) return 0;
+    for (size_t i = 3; i < HEADER + users; i++) {
+        if (i >= HEADER && (w[i] < FIRST_SAMPLE || w[i] > LAST_SAMPLE)) return 0;
+        sum += w[i] & 511;
+    }
+    return w[HEADER + users] == inverted(sum & 511) ? HEADER + users + 1 : 0;
+}
+
+static uint32_t plain_space(const uint16_t *w, size_t start, size_t end) {
+    while (end - start > HEADER && w[start] == 0 && w[start + 1] == LAST_WORD && w[start + 2] == LAST_WORD) {
+        size_t size = plain_packet(w + start, end - start);
+        if (!size) return 1;
+        start += size;
+    }
+    for (size_t i = start; i < end; i++)
+        if (w[i] != fill(i)) return 1;
+    return 0;
+}
+
 static uint32_t plain_judge(const System *s, uint32_t line, const uint16_t *w) {
     if (code_differs(w, fourth(s, line, 1)) || code_differs(w + s->sav, fourth(s, line, 0))) return 1;
     int blank = is_blank(s, line);
-    for (size_t i = CODE; i < s->sav; i++)
-        if (w[i] != fill(i)) return 1;
+    if (plain_space(w, CODE, s->sav)) return 1;
     for (size_t i = s->sav + CODE; i < s->words; i++) {
         if (blank ? w[i] != fill(i) : w[i] < FIRST_SAMPLE || w[i] > LAST_SAMPLE) return 1;
     }
@@ -103,7 +158,7 @@ static unsigned not_fill(const uint16_t *w, size_t start, size_t end) {
 
 static uint32_t two_pass_judge(const System *s, uint32_t line, const uint16_t *w) {
     unsigned bad = code_differs(w, fourth(s, line, 1)) | code_differs(w + s->sav, fourth(s, line, 0));
-    bad |= not_fill(w, CODE, s->sav);
+    bad |= not_fill(w, CODE, s->sav) && plain_space(w, CODE, s->sav);
     if (is_blank(s, line))
         bad |= not_fill(w, s->sav + CODE, s->words);
     else
@@ -131,11 +186,13 @@ OVER_LINES(judge_words, speed_judge(now->system, line, words, now->words))
 OVER_LINES(judge_bytes, fiskrogn_judge(now->system, line, 0, 0, (const uint8_t *)words, 2 * now->words))
 OVER_LINES(take_lines, speed_take(now->system, line, words, now->words, y, Y_SAMPLES, cb, C_SAMPLES, cr, C_SAMPLES))
 OVER_LINES(in_turn, speed_in_turn(now->system, line, words, now->words, y, Y_SAMPLES, cb, C_SAMPLES, cr, C_SAMPLES))
-OVER_LINES(write_lines, speed_write(now->system, line, y, Y_SAMPLES, cb, C_SAMPLES, cr, C_SAMPLES, target + (words - store), now->words))
+OVER_LINES(write_lines, speed_write(now->system, line, y, Y_SAMPLES, cb, C_SAMPLES, cr, C_SAMPLES, ready, ready_words, ready, 0,
+                                    target + (words - store), now->words))
 
 /* ---- what is compared before it is timed: lines are written as C writes them, judged as C judges them, and taken as what was written */
-static void fill_store(void) {
+static void fill_store(enum Packets packets) {
     draw_samples();
+    make_ready(packets);
     for (size_t k = 0; k < count; k++) plain_write(now, number_of(k), store + k * now->words);
 }
 
@@ -254,7 +311,7 @@ static void measure(Row *rows, size_t n, int times) {
 static void lines_table(const System *s, size_t mib) {
     now = s;
     count = mib * 1048576 / (2 * s->words);
-    fill_store();
+    fill_store(NO_PACKETS);
     compare_lines();
     Row rows[] = {{"memcpy", copy, 0},         {"plain C, first fault", plain_c, 0}, {"C in two passes", two_pass_c, 0},
                   {"judge words", judge_words, 0}, {"judge bytes", judge_bytes, 0},      {"take", take_lines, 0},
@@ -263,6 +320,22 @@ static void lines_table(const System *s, size_t mib) {
     measure(rows, n, 1);
     printf("%u lines            of memcpy   times plain C\n", s->system);
     for (size_t i = 0; i < n; i++) printf("%-22s %8.2f %12.1f\n", rows[i].name, rows[0].best / rows[i].best, rows[1].best / rows[i].best);
+}
+
+/* lines with packets beside lines without, in one run: how quickly each judge goes, of the same judge where there are none */
+static void packets_table(const System *s) {
+    static const char *names[] = {"no packets", "one long packet", "packets without users"};
+    double best[3][2];
+    for (int k = 0; k < 3; k++) {
+        Row rows[] = {{"judge words", judge_words, 0}, {"judge bytes", judge_bytes, 0}};
+        now = s;
+        fill_store((enum Packets)k);
+        compare_lines();
+        measure(rows, 2, 1);
+        for (int i = 0; i < 2; i++) best[k][i] = rows[i].best;
+    }
+    printf("%u lines            judge words   judge bytes\n", s->system);
+    for (int k = 0; k < 3; k++) printf("%-22s %8.2f %13.2f\n", names[k], best[0][0] / best[k][0], best[0][1] / best[k][1]);
 }
 
 /* a run gives these words, whatever stood where it writes them */
@@ -293,15 +366,17 @@ static void serial_table(void) {
 }
 
 /* ---- a recording for the confirming program */
-static int write_recording(uint32_t system, uint32_t start, size_t lines, int repaired) {
+static int write_recording(uint32_t system, uint32_t start, size_t lines, const char *kind) {
     static uint16_t line[WORDS_625];
     now = &systems[system == 625];
     uint16_t header[2] = {(uint16_t)system, (uint16_t)start};
     fwrite(header, 2, 2, stdout);
     draw_samples();
+    make_ready(*kind == 'l' ? LONG_PACKET : *kind == 's' ? SHORT_PACKETS : NO_PACKETS);
     for (size_t k = 0; k < lines; k++) {
-        check(speed_write(system, number_of(start - 1 + k), y, Y_SAMPLES, cb, C_SAMPLES, cr, C_SAMPLES, line, now->words) == 0, "a line is written");
-        if (repaired) line[CODE - 1] ^= 4, line[now->sav + CODE - 1] ^= 256;
+        check(speed_write(system, number_of(start - 1 + k), y, Y_SAMPLES, cb, C_SAMPLES, cr, C_SAMPLES, ready, ready_words, ready, 0, line, now->words) == 0,
+              "a line is written");
+        if (*kind == 'r') line[CODE - 1] ^= 4, line[now->sav + CODE - 1] ^= 256;
         fwrite(line, 2, now->words, stdout);
     }
     return ferror(stdout) != 0;
@@ -309,12 +384,15 @@ static int write_recording(uint32_t system, uint32_t start, size_t lines, int re
 
 int main(int argc, char **argv) {
     if (argc == 6 && strcmp(argv[1], "record") == 0)
-        return write_recording((uint32_t)atoi(argv[2]), (uint32_t)atoi(argv[3]), strtoul(argv[4], NULL, 10), argv[5][0] == 'r');
+        return write_recording((uint32_t)atoi(argv[2]), (uint32_t)atoi(argv[3]), strtoul(argv[4], NULL, 10), argv[5]);
     size_t mib = argc > 1 ? strtoul(argv[1], NULL, 10) : 40;
     store = malloc(mib * 1048576);
     target = malloc(mib * 1048576);
     check(store && target && mib > 0, "memory");
-    for (size_t i = 0; i < 2; i++) lines_table(&systems[i], mib);
+    for (size_t i = 0; i < 2; i++) {
+        lines_table(&systems[i], mib);
+        packets_table(&systems[i]);
+    }
     serial_table();
     return 0;
 }

@@ -7,8 +7,9 @@ from independent.due_cases import any_dues
 from independent.edges import ANY_SYSTEMS, EDGE_COUNTS, EDGE_LINES, EDGE_NUMBERS, EDGE_SAMPLES
 from independent.edges import EDGE_SUMS, EDGE_WORDS, HIGHEST, HIGHEST_WIDE, MOSTS, SYSTEMS
 from independent.edges import WRONG_SYSTEMS
-from independent.judge import CLEAN_REPORT, CODE_BITS, LINES_LIMIT, Report, Walk, line_after
-from independent.material import changed, chosen_lines, inverted, line_for
+from independent.judge import CLEAN_REPORT, CODE_BITS, LINES_LIMIT, NO_READY, PacketWords
+from independent.judge import Report, Walk, line_after
+from independent.material import Source, changed, chosen_lines, inverted, line_for
 from independent.material import line_numbers, of_both, word_lengths
 from independent.offered import at_any_walk, every_edge_word, every_inversion, every_offset_spoilt
 from independent.offered import of_any_length
@@ -40,6 +41,9 @@ LENGTHS = (
     0, 1, 1_715, 1_716, 1_717, 1_727, 1_728, 1_729, 3_432, 3_456, 2**31, HIGHEST, 2**32,
     2**32 + 1_716, 2**32 + 1_728, 2**63, 2**63 + 1_716, HIGHEST_WIDE - 1, HIGHEST_WIDE,
 )  # fmt: skip
+
+# How many words of the two spaces may be packets, and any other counts.
+PACKET_COUNTS = [PacketWords(*pair) for pair in product((0, 1, 7, 268, 1_440, HIGHEST), repeat=2)]
 
 # Frames about those of the longest recording, and those whose lines pass 32 bits.
 EDGE_FRAMES = sorted(
@@ -120,7 +124,7 @@ def walks(source):
         yield protocol.WALK_REFUSAL, (walk,)
         yield protocol.WALK_DUE, (walk, choice(FOURTHS))
         yield protocol.MOVED, (walk, choice(dues), choice(REPORTS))
-        yield protocol.ACCEPTED, (walk, choice(dues), choice(REPORTS))
+        yield protocol.ACCEPTED, (walk, choice(dues), choice(REPORTS), choice(PACKET_COUNTS))
         yield protocol.REFUSED, (walk, choice(EDGE_NUMBERS), choice(EDGE_LINES))
         given, due = choice(LENGTHS), choice(LENGTHS)
         yield protocol.STANDING, (walk, Wide(given), Wide(due))
@@ -134,7 +138,8 @@ def every_report(source):
     for report, (system, line) in product(REPORTS, chosen_lines()):
         due = judge.due_of(system, line)
         yield protocol.MOVED, (source.walk(system, line), due, report)
-        yield protocol.ACCEPTED, (source.walk(system, line), due, report)
+        packets = source.random.choice(PACKET_COUNTS)
+        yield protocol.ACCEPTED, (source.walk(system, line), due, report, packets)
 
 
 def full_counts(source):
@@ -144,7 +149,8 @@ def full_counts(source):
     for due, line, counts in product(list(any_dues(source)), EDGE_LINES, FULL_COUNTS):
         walk = Walk(source.random.choice(ANY_SYSTEMS), line, *counts)
         yield protocol.MOVED, (walk, due, source.random.choice(reports))
-        yield protocol.ACCEPTED, (walk, due, source.random.choice(reports))
+        packets = source.random.choice(PACKET_COUNTS)
+        yield protocol.ACCEPTED, (walk, due, source.random.choice(reports), packets)
 
 
 def walk_dues(source):
@@ -204,6 +210,26 @@ def judge_bytes(source, walk, words):
     return protocol.BYTEWISE_JUDGE, (walk, pack_slice(words))
 
 
+def judge_in_c(source, walk, words):
+    return protocol.CAPTURE_JUDGE, (*walk, pack_slice(words))
+
+
+def take_samples(source, walk, words):
+    return protocol.TAKE, (walk, words, *source.junk_buffers())
+
+
+def lend_active(source, walk, words):
+    return protocol.ACTIVE, (walk, words)
+
+
+def lend_between_packets(source, walk, words):
+    return protocol.BETWEEN_PACKETS, (walk, words)
+
+
+def lend_active_packets(source, walk, words):
+    return protocol.ACTIVE_PACKETS, (walk, words)
+
+
 def extract_line(source, walk, words):
     return protocol.EXTRACT, (walk, pack_slice(words), source.junk_bytes(ROW_BYTES))
 
@@ -233,12 +259,20 @@ JUDGING = (
     follow_line,
     close_with_line,
 )
+READING = (judge_words, take_samples, lend_active, judge_in_c)
+LENDING = (lend_between_packets, lend_active_packets)
 
 
 def judgings(source, walk, words):
-    """One line through every call that judges it."""
+    """One line through every call that judges it, in a run or at a walk."""
     for judging in JUDGING:
         yield judging(source, walk, words)
+
+
+def readings(source, walk, words):
+    """One line judged, taken, as its active part and by the byte judge."""
+    for reading in READING:
+        yield reading(source, walk, words)
 
 
 def judged_lines(source):
@@ -373,10 +407,10 @@ def row_faults(source):
             yield protocol.PACK, (one, source.junk_bytes(ROW_BYTES))
 
 
-def recordings_in(source, walk, row, line):
+def recordings_in(source, walk, row, line, ready=NO_READY):
     """A row offered at a walk and on a tape, with these bytes for its line."""
-    yield protocol.RECORD, (walk, row, line)
-    yield protocol.TAPE_NEXT, (tape_at(source, walk), row, line)
+    yield protocol.RECORD, (walk, row, *ready, line)
+    yield protocol.TAPE_NEXT, (tape_at(source, walk), row, *ready, line)
 
 
 def recordings(source, walk, row):
@@ -464,11 +498,11 @@ def begun_runs(source):
             yield protocol.BEGIN, (header(system, start),)
 
 
-def lines_from(source, walk, count):
+def lines_from(source, walk, count, written=Source.written):
     """The bytes of lines as a walk awaits them, one code of some repaired."""
     lines = []
     for steps in range(count):
-        words = source.written(walk.system, line_after(walk.system, walk.line, steps))
+        words = written(source, walk.system, line_after(walk.system, walk.line, steps))
         masks = (0, *inverted(1)) if source.random.randrange(2) else (0,)
         lines.append(pack_slice(source.with_inversions(walk.system, words, masks)))
     return b"".join(lines)

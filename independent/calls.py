@@ -81,21 +81,21 @@ def moved(walk, due, report):
     return judge.moved(walk, of_its_system(due), report)
 
 
-def accepted(walk, due, report):
-    return judge.accepted(walk, of_its_system(due), report)
+def accepted(walk, due, report, packets):
+    return judge.accepted(walk, of_its_system(due), report, packets)
 
 
 def write_line(due, *slices):
     return judge.write_line(of_its_system(due), *slices)
 
 
-def write_part(due, part, words):
-    # "3 at 0 for the line and at 1 for the part, then 12 at the lowest place, where
-    # V is 0."
+def write_part(due, part, between, active, words):
+    # "3 at 0 for the line and at 1 for the part", then what refuses ready packet words,
+    # "then 12 at the lowest place, where V is 0."
     due = of_its_system(due)
     lengths_due = judge.SYSTEMS[due.system].words, judge.ACTIVE_WORDS
     refusal = judge.length_refusal((len(words), len(part)), lengths_due)
-    return (*refusal, words) if refusal else judge.written(due, part, words)
+    return (*refusal, words) if refusal else judge.written(due, part, between, active, words)
 
 
 def reserved(word):

@@ -3,9 +3,11 @@
 import re
 from pathlib import Path
 
-from independent import calls, judge, kinds, recordings, rows, tapes, totals
+from independent import calls, captions, judge, kinds, recordings, rows, tapes, totals
 from independent.calls import Filled, Told
-from independent.judge import CLEAN_REPORT, Due, Report, Walk, samples_of
+from independent.captions import Entry
+from independent.judge import CLEAN_REPORT, NO_PACKETS, NO_READY, Due, PacketWords, Report
+from independent.judge import Walk, samples_of
 from independent.probe_files import chosen_cases
 from independent.programme import record
 from independent.protocol import Wide, flat, pack_slice
@@ -45,9 +47,9 @@ def shared_calls():
     ):  # fmt: skip
         yield f"named {system}, {line}", calls.named_refusal(system, line), refusal
     last, due = Walk(525, 525, 7, 3), Due(525, 1, 0, 512, 64)
-    accepted = calls.accepted(last, due, CLEAN_REPORT)
-    yield "accepted", accepted, (0, 0, CLEAN_REPORT, (525, 1, 8, 3))
-    yield "refused", judge.refused(last, 9, 3), (9, 3, (0, 0, 0, 0), last)
+    accepted = calls.accepted(last, due, CLEAN_REPORT, PacketWords(14, 7))
+    yield "accepted", accepted, (0, 0, CLEAN_REPORT, (525, 1, 8, 3), (14, 7))
+    yield "refused", judge.refused(last, 9, 3), (9, 3, (0, 0, 0, 0), last, (0, 0))
 
 
 def moved_walks():
@@ -104,17 +106,19 @@ def written_by_due():
     y, cb, cr = samples_of(part)
     due, blank = Due(525, 1, 0, 65_535, 1_024), Due(525, 0, 1, 5, 6)
     line = [1023, 0, 0, 872] + [65_535, 1_024] * 134 + [1023, 0, 0, 796] + part
-    yield "line written", calls.write_line(due, y, cb, cr, words), (0, 0, line)
-    yield "part written", calls.write_part(due, part, words), (0, 0, line)
+    yield "line written", calls.write_line(due, y, cb, cr, *NO_READY, words), (0, 0, line)
+    yield "part written", calls.write_part(due, part, *NO_READY, words), (0, 0, line)
     fill = [1023, 0, 0, 728] + [5, 6] * 134 + [1023, 0, 0, 684] + [5, 6] * 720
     nothing = [0] * 1440
-    yield "fill for samples", calls.write_line(blank, *samples_of(nothing), words), (0, 0, fill)
-    yield "fill for a part", calls.write_part(blank, nothing, words), (0, 0, fill)
+    got = calls.write_line(blank, *samples_of(nothing), *NO_READY, words)
+    yield "fill for samples", got, (0, 0, fill)
+    yield "fill for a part", calls.write_part(blank, nothing, *NO_READY, words), (0, 0, fill)
     for place, sample in ((0, 3), (1, 1020), (2, 0), (3, 1024), (1438, 65_535), (1439, 1023)):
         outside = part[:place] + [sample] + part[place + 1 :]
         refused = 12, place, words
-        yield f"sample {place}", calls.write_line(due, *samples_of(outside), words), refused
-        yield f"word {place}", calls.write_part(due, outside, words), refused
+        got = calls.write_line(due, *samples_of(outside), *NO_READY, words)
+        yield f"sample {place}", got, refused
+        yield f"word {place}", calls.write_part(due, outside, *NO_READY, words), refused
     by_number = due._replace(system=5)
     for lengths, refusal in (
         ((525, 1715, 720, 0, 0), (3, 0)), ((525, 1716, 719, 0, 0), (3, 1)),
@@ -124,14 +128,14 @@ def written_by_due():
     ):  # fmt: skip
         system, *sizes = lengths
         lent, *samples = ([0] * size for size in sizes)
-        got = calls.write_line(due._replace(system=system), *samples, lent)
+        got = calls.write_line(due._replace(system=system), *samples, *NO_READY, lent)
         yield f"line of {lengths}", got, (*refusal, lent)
     for due, size, length, refusal in (
         (due, 1439, 1717, (3, 0)), (due, 1439, 1716, (3, 1)), (blank, 1441, 1716, (3, 1)),
         (due, 1440, 1716, (12, 0)), (by_number, 1440, 1716, (3, 0)),
         (by_number, 1440, 1728, (12, 0)),
     ):  # fmt: skip
-        got = calls.write_part(due, [0] * size, [7] * length)
+        got = calls.write_part(due, [0] * size, *NO_READY, [7] * length)
         yield f"part of {size}, {length}, {due}", got, (*refusal, [7] * length)
 
 
@@ -165,17 +169,18 @@ def row_calls():
 def programme_calls():
     line = record(625, 23, BLACK_ROW)[0][4:]
     walk, after = Walk(625, 23, 0, 0), Walk(625, 24, 1, 0)
-    recorded = tapes.record(walk, BLACK_ROW, bytes(3456))
-    yield "recorded", recorded, (0, 0, CLEAN_REPORT, after, line)
+    recorded = tapes.record(walk, BLACK_ROW, *NO_READY, bytes(3456))
+    yield "recorded", recorded, (0, 0, CLEAN_REPORT, after, NO_PACKETS, line)
     extracted = tapes.extract(walk, line, bytes(1920))
-    yield "extracted", extracted, (0, 0, CLEAN_REPORT, after, BLACK_ROW)
+    yield "extracted", extracted, (0, 0, CLEAN_REPORT, after, NO_PACKETS, BLACK_ROW)
     blank = Walk(625, 22, 0, 0)
-    fill = tapes.record(blank, b"", bytes(3456))[4]
-    yield "a row for fill", tapes.extract(blank, fill, b"\7" * 1920)[4], b"\7" * 1920
-    yield "line short", tapes.record(walk, b"", b"")[:2], (3, 0)
-    yield "row short", tapes.record(walk, b"", bytes(3456))[:2], (3, 1)
-    yield "counted out", tapes.record(COUNTED_OUT, b"", b"")[:2], (4, 0)
-    yield "no room", tapes.extract(walk, line, b""), (3, 1, CLEAN_REPORT, walk, b"")
+    fill = tapes.record(blank, b"", *NO_READY, bytes(3456))[-1]
+    yield "a row for fill", tapes.extract(blank, fill, b"\7" * 1920)[-1], b"\7" * 1920
+    yield "line short", tapes.record(walk, b"", *NO_READY, b"")[:2], (3, 0)
+    yield "row short", tapes.record(walk, b"", *NO_READY, bytes(3456))[:2], (3, 1)
+    yield "counted out", tapes.record(COUNTED_OUT, b"", *NO_READY, b"")[:2], (4, 0)
+    no_room = 3, 1, CLEAN_REPORT, walk, NO_PACKETS, b""
+    yield "no room", tapes.extract(walk, line, b""), no_room
     yield "a word before no room", tapes.extract(walk, bytes(3456), b"")[:2], (6, 0)
     for walk, answers in (
         (Walk(625, 22, 0, 0), (0, 0)), (Walk(625, 22, 1, 0), (0, 1)), (Walk(625, 1, 9, 0), (0, 0)),
@@ -247,12 +252,14 @@ def tape_calls():
     yield "begun tape", tape, ((625, 22, 0, 0), 625, 0, 0)
     yield "no tape", tapes.begin_tape(525, 526, 7), ((0, 0, 0, 0), 7, 2, 0)
     second = tape._replace(walk=Walk(625, 23, 1, 0))
-    yield "fill taped", tapes.tape_next(tape, b"", bytes(3456)), (second, blank)
+    yield "fill taped", tapes.tape_next(tape, b"", *NO_READY, bytes(3456)), (second, blank)
     third = tape._replace(walk=Walk(625, 24, 2, 0))
-    yield "row taped", tapes.tape_next(second, BLACK_ROW, bytes(3456)), (third, line)
+    yield "row taped", tapes.tape_next(second, BLACK_ROW, *NO_READY, bytes(3456)), (third, line)
     refused = second._replace(number=3, place=1)
-    yield "row refused", tapes.tape_next(second, b"", bytes(3456)), (refused, bytes(3456))
-    yield "tape has ended", tapes.tape_next(refused, BLACK_ROW, b"\7"), (refused, b"\7")
+    got = tapes.tape_next(second, b"", *NO_READY, bytes(3456))
+    yield "row refused", got, (refused, bytes(3456))
+    got = tapes.tape_next(refused, BLACK_ROW, *NO_READY, b"\7")
+    yield "tape has ended", got, (refused, b"\7")
     full = Tape(Walk(625, 1, 625, 3), 1249, 5, 9)
     yield "turns", [tapes.turns(full), tapes.turns(full._replace(most=1250))], [1, 0]
     yield "turned", tapes.turned(full), ((625, 1, 0, 0), 1249, 5, 9)
@@ -287,6 +294,27 @@ def arrivals():
         (Told(2, Wide(3)), 3, (2, 1, 0)),
     ):
         yield f"filled after {told}", calls.filled_after(some, told, room), after
+
+
+def heads():
+    """Heads of a packets file's entries."""
+    entry, head = Entry(Wide(2**32 + 3), 1, 268), bytes.fromhex("030000000100000001000c01")
+    yield "head put", captions.put_head(entry, bytes(12)), (0, 0, head)
+    yield "no room", captions.put_head(entry, b"\7"), (3, 0, b"\7")
+    high = captions.put_head(Entry(Wide(0), 65_536, 2**32 - 1), bytes(12))[2]
+    yield "low bits put", high, bytes(10) + b"\xff\xff"
+    key, none = 2**33 + 7, Entry(Wide(0), 0, 0)
+    yield "head", captions.judge_head(key, head), (0, entry, key + 1)
+    yield "does not rise", captions.judge_head(key + 1, head), (22, none, key + 1)
+    for name, bad in (
+        ("short", head[:11]),
+        ("long", head + b"\0"),
+        ("line", head[:7] + b"\x40" + head[8:]),
+        ("space", head[:8] + b"\2" + head[9:]),
+        ("no words", head[:10] + b"\0\0"),
+        ("too many words", head[:10] + b"\xa1\5"),
+    ):
+        yield f"bad {name}", captions.judge_head(5, bad), (22, none, 5)
 
 
 def sums():
@@ -358,6 +386,7 @@ GROUPS = (
     steps,
     tape_calls,
     arrivals,
+    heads,
     sums,
     every_call,
     every_kind,

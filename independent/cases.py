@@ -2,11 +2,13 @@
 
 from itertools import product
 
-from independent import call_cases, due_cases, judge, step_cases
+from independent import call_cases, due_cases, head_cases, judge, packet_cases, ready_cases
+from independent import step_cases
+from independent.call_cases import readings
 from independent.edges import ALL_PLACES, ANY_SYSTEMS, EDGE_COUNTS, EDGE_LINES, EDGE_PLACES
 from independent.edges import EDGE_SAMPLES, EDGE_WORDS, HIGHEST, LISTED_COUNTS, LISTED_LENGTHS
 from independent.edges import LISTED_LINES, LISTED_SAMPLES, LISTED_SERIAL, SYSTEMS, WRONG_SYSTEMS
-from independent.judge import Walk, fourth_offsets, line_after, samples_of
+from independent.judge import NO_READY, Walk, fourth_offsets, line_after, samples_of
 from independent.material import Source, changed, chosen_lines, edge_offsets, inverted, line_for
 from independent.material import line_numbers, of_both, plain_and_blank_line, slice_lengths
 from independent.material import stretched, turning_lines
@@ -50,12 +52,9 @@ def bytewise(walk, data):
     return CAPTURE_JUDGE, (*walk, data)
 
 
-def readings(source, walk, words):
-    """One line judged, taken, as its active part and by the byte judge."""
-    yield JUDGE, (walk, words)
-    yield TAKE, (walk, words, *source.junk_buffers())
-    yield ACTIVE, (walk, words)
-    yield bytewise(walk, pack_slice(words))
+def write(system, line, samples, words):
+    """Samples to be written, and no packets."""
+    return WRITE, (system, line, *samples, *NO_READY, words)
 
 
 def every_word(source):
@@ -85,7 +84,7 @@ def listed_samples(source):
             words = changed(source.written(system, line), {offset: sample})
             yield from readings(source, source.walk(system, line), words)
             part = changed(source.picture(), {place: sample})
-            yield WRITE, (system, line, *samples_of(part), source.junk(len(words)))
+            yield write(system, line, samples_of(part), source.junk(len(words)))
 
 
 def listed_lines(source):
@@ -94,7 +93,7 @@ def listed_lines(source):
         words = line_for(source, system, line)
         yield from readings(source, source.walk(system, line), words)
         part = source.picture()
-        yield WRITE, (system, line, *samples_of(part), source.junk(len(words)))
+        yield write(system, line, samples_of(part), source.junk(len(words)))
 
 
 def listed_lengths(source):
@@ -102,7 +101,7 @@ def listed_lengths(source):
         words = stretched(source.written(system, line), length)
         yield from readings(source, source.walk(system, line), words)
         part = source.picture()
-        yield WRITE, (system, line, *samples_of(part), source.junk(length))
+        yield write(system, line, samples_of(part), source.junk(length))
 
 
 def listed_counts(source):
@@ -148,8 +147,8 @@ def every_line(source):
     for system, line in of_both(line_numbers):
         samples = samples_of(source.picture())
         before = source.junk(judge.SYSTEMS[system].words)
-        yield WRITE, (system, line, *samples, before)
-        words = judge.write(system, line, *samples, before)[2]
+        yield write(system, line, samples, before)
+        words = judge.write(system, line, *samples, *NO_READY, before)[2]
         yield from readings(source, source.walk(system, line), words)
 
 
@@ -251,7 +250,7 @@ def wrong_slices(source):
             buffers = [source.junk(size) for size in sizes]
             for words in (clean, spoilt):
                 yield TAKE, (source.walk(system, line), stretched(words, length), *buffers)
-            yield WRITE, (system, line, *buffers, source.junk(length))
+            yield write(system, line, buffers, source.junk(length))
 
 
 def wrong_lines(source):
@@ -298,7 +297,7 @@ def mixed_refusals(source):
         yield TAKE, (walk, words, *buffers)
         yield ACTIVE, (walk, words)
         yield bytewise(walk, pack_slice(words))
-        yield WRITE, (system, line, *buffers, source.junk(len(words)))
+        yield write(system, line, buffers, source.junk(len(words)))
 
 
 def written_samples(source):
@@ -312,7 +311,7 @@ def written_samples(source):
 def written_into_junk(source, system, line, part):
     """Samples to be written where any words stand."""
     before = source.junk(judge.SYSTEMS[system].words)
-    return WRITE, (system, line, *samples_of(part), before)
+    return write(system, line, samples_of(part), before)
 
 
 def written_faults(source):
@@ -331,14 +330,14 @@ def written_junk(source):
     for system, line in chosen_lines():
         before = source.junk(judge.SYSTEMS[system].words)
         for _ in range(10):
-            yield WRITE, (system, line, *source.junk_buffers(), before)
+            yield write(system, line, source.junk_buffers(), before)
 
 
 def written_numbers(source):
     for system, line in product(ANY_SYSTEMS, EDGE_LINES):
         length = len(line_for(source, system, line))
         for part in (source.picture(), source.junk(judge.ACTIVE_WORDS)):
-            yield WRITE, (system, line, *samples_of(part), source.junk(length))
+            yield write(system, line, samples_of(part), source.junk(length))
 
 
 def serial_states(source):
@@ -451,12 +450,15 @@ FAMILIES = (
     *call_cases.FAMILIES,
     *due_cases.FAMILIES,
     *step_cases.FAMILIES,
+    *packet_cases.FAMILIES,
+    *ready_cases.FAMILIES,
+    *head_cases.FAMILIES,
 )
 
 
-def cases(seed, kinds, choice):
+def cases(seed, kinds, choice, families=FAMILIES):
     """The chosen cases of each family, as far as their kind is asked for."""
-    for family in FAMILIES:
+    for family in families:
         name = family.__name__
         for index, (kind, arguments) in enumerate(family(Source(seed, name))):
             if kind in kinds and choice.takes(index):

@@ -12,6 +12,8 @@ from itertools import chain
 from typing import NamedTuple, Optional
 
 from independent import judge, programme
+from independent.entries import FIRST_ORDINAL, NotTaken, line_entries
+from independent.packets import each_packet, header_values
 from independent.programme import LAST_NUMBER, Refused
 from independent.recordings import (
     Run,
@@ -26,6 +28,27 @@ from independent.recordings import (
 )
 from independent.tapes import frame_rows, piece_lines
 from independent.totals import HOUR_PARTS, hours, no_totals, total_lines, with_read, with_unread
+from independent.words import (
+    BAD_CHECKSUM,
+    BAD_PARITY,
+    FIRST_SAMPLE,
+    LAST_SAMPLE,
+    LAST_WORD,
+    NOT_A_SAMPLE,
+    NOT_DUE,
+    NO_BIT_9,
+    NO_ENTRY,
+    NO_FILL,
+    NO_LINE,
+    NO_PATTERN,
+    NO_PREAMBLE,
+    NO_SYSTEM,
+    OVER_A_WORD,
+    PAST_THE_SPACE,
+    RESERVED,
+    WRONG_COUNTS,
+    WRONG_LENGTH,
+)
 
 FOLDER = "folder"
 
@@ -35,10 +58,11 @@ ANY_TEXT = None
 TAKEN, STOPPED, FAILED = range(3)
 
 USES = {
-    "fiskrogn": "confirm | record | extract | scramble | descramble | help ..",
+    "fiskrogn": "confirm | record | extract | packets | scramble | descramble | help ..",
     "confirm": "confirm [FILE | FOLDER]..",
-    "record": "record [--into FOLDER [--frames N]] SYSTEM START",
-    "extract": "extract [FILE | FOLDER]",
+    "record": "record [--into FOLDER [--frames N]] [--packets FILE] SYSTEM START",
+    "extract": "extract [--packets FILE] [FILE | FOLDER]",
+    "packets": "packets [FILE | FOLDER]",
     "scramble": "scramble",
     "descramble": "descramble",
     "help": "help [VERB]",
@@ -50,38 +74,52 @@ AWAITED = {
     "confirm": "a recording",
     "record": "v210 rows",
     "extract": "a recording",
+    "packets": "a recording",
     "scramble": "words",
     "descramble": "channel words",
 }
 
 HEADER_TEXTS = {
-    judge.NO_SYSTEM: f"the system is neither {' nor '.join(map(str, judge.SYSTEMS))}",
-    judge.NO_LINE: "the start line is not one of the system",
+    NO_SYSTEM: f"the system is neither {' nor '.join(map(str, judge.SYSTEMS))}",
+    NO_LINE: "the start line is not one of the system",
 }
 READ_TEXTS = {
     **HEADER_TEXTS,
-    judge.WRONG_LENGTH: "the recording ends inside a line",
-    judge.WRONG_COUNTS: f"it goes on after {judge.LINES_LIMIT} lines",
-    judge.OVER_A_WORD: f"a word is over {judge.LAST_WORD}",
-    judge.NO_PREAMBLE: "one of the first three words of a timing code is wrong",
-    judge.NO_BIT_9: "bit 9 of a fourth word is 0",
-    judge.NO_PATTERN: "a timing code has no legal code within one inverted bit",
-    judge.NOT_DUE: "a timing code is not the one due here",
-    judge.NO_FILL: "fill is due and is not there",
-    judge.RESERVED: "a reserved word stands where a sample is due",
+    WRONG_LENGTH: "the recording ends inside a line",
+    WRONG_COUNTS: f"it goes on after {judge.LINES_LIMIT} lines",
+    OVER_A_WORD: f"a word is over {LAST_WORD}",
+    NO_PREAMBLE: "one of the first three words of a timing code is wrong",
+    NO_BIT_9: "bit 9 of a fourth word is 0",
+    NO_PATTERN: "a timing code has no legal code within one inverted bit",
+    NOT_DUE: "a timing code is not the one due here",
+    NO_FILL: "fill is due and is not there",
+    RESERVED: "a reserved word stands where a sample or a user word is due",
+    BAD_PARITY: "a header word of a packet has bad parity",
+    BAD_CHECKSUM: "a packet's checksum is wrong",
+    PAST_THE_SPACE: "a packet runs past its space",
 }
 RECORD_TEXTS = {
     **HEADER_TEXTS,
-    judge.WRONG_LENGTH: "the last row is short",
-    judge.WRONG_COUNTS: (
+    WRONG_LENGTH: "the last row is short",
+    WRONG_COUNTS: (
         f"{judge.LINES_LIMIT} lines are written, and --into FOLDER would go on in a next file"
     ),
-    judge.OVER_A_WORD: "spare bits are set in a word of the row",
-    judge.NOT_A_SAMPLE: f"a sample is outside {judge.FIRST_SAMPLE} to {judge.LAST_SAMPLE}",
+    OVER_A_WORD: "spare bits are set in a word of the row",
+    NOT_A_SAMPLE: f"a sample is outside {FIRST_SAMPLE} to {LAST_SAMPLE}",
+}
+# What is said of a refusal by its number, or by number and place, where packets are recorded.
+CAPTIONED_TEXTS = {
+    **RECORD_TEXTS,
+    (WRONG_LENGTH, 4): "more packet words than the space between EAV and SAV holds",
+    (WRONG_LENGTH, 5): "more packet words than the active part holds, or any where V is 0",
+    OVER_A_WORD: f"{RECORD_TEXTS[OVER_A_WORD]}, or a packet word is over {LAST_WORD}",
+    NO_FILL: "no packet starts there",
+    RESERVED: "a reserved word stands where a user word is due",
+    **{number: READ_TEXTS[number] for number in (BAD_PARITY, BAD_CHECKSUM, PAST_THE_SPACE)},
 }
 SERIAL_TEXTS = {
-    judge.OVER_A_WORD: f"it is over {judge.LAST_WORD}",
-    judge.WRONG_LENGTH: "half a word is left",
+    OVER_A_WORD: f"it is over {LAST_WORD}",
+    WRONG_LENGTH: "half a word is left",
 }
 FRAME_ROWS_TEXT = f"a frame of 525 has {frame_rows(525)} rows, one of 625 has {frame_rows(625)}"
 
@@ -89,10 +127,17 @@ RECORDINGS = {f"{number:04}.rec": number for number in range(1, LAST_NUMBER + 1)
 
 NOT_READ = "could not be read: REASON"
 NOT_MADE = "could not be made: REASON"
+NOT_WRITTEN = "could not be written: REASON"
 MISSING = "is missing"
 NO_NUMBERS = "holds no numbered recordings (0001.rec and so on)"
 HELD = "holds recordings already: name another folder"
 NO_MORE_NUMBERS = f"holds {LAST_NUMBER} recordings, and no more can be numbered"
+NOT_EMPTY = "holds something already: name another file"
+A_PACKETS_FILE = "--packets takes a packets file, as extract --packets writes one"
+NO_ENTRY_TEXT = "is cut, has a line, a space or words that cannot be, or does not rise"
+
+SPACE_NAMES = "between", "active"
+
 
 class Answer(NamedTuple):
     """What is written on standard output and standard error, the status, the files left."""
@@ -123,11 +168,15 @@ def number_of(text):
 
 
 # The options that take a value, and how many other arguments a verb takes at least and at most.
-OPTIONS = {"record": {"--into": str, "--frames": number_of}}
+OPTIONS = {
+    "record": {"--into": str, "--frames": number_of, "--packets": str},
+    "extract": {"--packets": str},
+}
 PLACES = {
     "confirm": (0, None),
     "record": (2, 2),
     "extract": (0, 1),
+    "packets": (0, 1),
     "scramble": (0, 0),
     "descramble": (0, 0),
     "help": (0, 1),
@@ -162,6 +211,12 @@ def check_frames(values):
         raise WrongUse("--frames takes 1 or more")
 
 
+def check_names(values):
+    """An empty name stands for none."""
+    if "" in values.values():
+        raise WrongUse("an argument is missing")
+
+
 def check_places(verb, words):
     least, most = PLACES[verb]
     if len(words) < least:
@@ -177,7 +232,14 @@ def wrong_use(verb, what, files):
 
 def refused(refusal, texts):
     number, line, place = refusal
-    return f"refused {number}, line {line}, place {place}: {texts[number]}"
+    text = texts[(number, place) if (number, place) in texts else number]
+    return f"refused {number}, line {line}, place {place}: {text}"
+
+
+def not_taken(at, entry):
+    """What is said of what stands at a byte of a packets file and is refused."""
+    unwritten = entry and f"is for the line of ordinal {entry.ordinal}, which is not written"
+    return f"refused {NO_ENTRY}: the entry at byte {at} {unwritten or NO_ENTRY_TEXT}"
 
 
 def waiting(verb):
@@ -322,6 +384,9 @@ class Confirming(Report):
     def write_picture(self, data):
         """Nothing: a confirmed recording's rows are not asked for."""
 
+    def say_left(self):
+        """Nothing: nor are its packets."""
+
     def say_refused(self, told, of):
         if told.number:
             refusal = told.number, told.line, told.place
@@ -374,20 +439,72 @@ class Confirming(Report):
         rows = [self.read_row(row_at(self.files, name)) for name in names]
         self.write_text(shown_totals(totals_of(chain.from_iterable(rows))))
 
+    def read_all(self, names, data):
+        if not names:
+            self.read(data)
+        elif len(names) > 1 or found(self.files, names[0]) == FOLDER:
+            self.read_names(names)
+        else:
+            self.read_file(names[0])
+
 
 class Extracting(Confirming):
     """The same with pictures on standard output, and the text on standard error."""
 
     goes_on = False
 
+    def __init__(self, verb, files):
+        super().__init__(verb, files)
+        self.ordinal, self.entries, self.captioned_lines = FIRST_ORDINAL, b"", 0
+
     def write_text(self, text):
         self.errors += os.fsencode(text)
 
     def write_picture(self, data):
-        self.output += programme.extract(data)[0]
+        rows, run, carried = programme.extract(data)
+        self.write_rows(rows)
+        for ordinal, line, spaces in carried:
+            self.write_packets(self.ordinal + ordinal, line, spaces)
+        self.ordinal += run.walk.lines_read
+
+    def write_rows(self, rows):
+        self.output += rows
+
+    def write_packets(self, ordinal, line, spaces):
+        self.entries += line_entries(ordinal, spaces)
+        self.captioned_lines += 1
+
+    def say_left(self):
+        """That there were packets, which went nowhere."""
+        if self.captioned_lines:
+            left = f"lines whose packets were not written: {self.captioned_lines}"
+            self.say(TAKEN, f"{left} (--packets FILE writes them)")
+
+    def read_beside(self, name, names, data):
+        """Read, and leave the packets in a file of this name."""
+        why_not = why_not_beside(self.files, name)
+        if why_not:
+            self.say(FAILED, f"{shown(name)} {why_not}")
+            return
+        self.read_all(names, data)
+        self.files = {**self.files, os.path.normpath(name): self.entries}
 
 
-READERS = {"confirm": Confirming, "extract": Extracting}
+class Listing(Extracting):
+    """The same with a line of text for each packet in place of pictures."""
+
+    def write_rows(self, rows):
+        """Nothing: only packets are listed."""
+
+    def write_packets(self, ordinal, line, spaces):
+        for name, words in zip(SPACE_NAMES, spaces):
+            for packet in each_packet(words):
+                identifier, second, count = header_values(packet)
+                told = f"{ordinal} {line} {name} {identifier:02x} {second:02x} {count}\n"
+                self.output += told.encode()
+
+
+READERS = {"confirm": Confirming, "extract": Extracting, "packets": Listing}
 SERIAL_CALLS = {"scramble": programme.scramble, "descramble": programme.descramble}
 
 
@@ -398,34 +515,48 @@ def told_answer(verb, told):
     return reader.answer()
 
 
-def read_answer(verb, names, data, files):
+def read_answer(verb, values, names, data, files):
+    check_names(values)
     reader = READERS[verb](verb, files)
-    if not names:
-        reader.read(data)
-    elif len(names) > 1 or found(files, names[0]) == FOLDER:
-        reader.read_names(names)
+    if "--packets" in values:
+        reader.read_beside(values["--packets"], names, data)
     else:
-        reader.read_file(names[0])
+        reader.read_all(names, data)
+        reader.say_left()
     return reader.answer()
 
 
-def say_how_it_ends(report, pieces, stopped, folder=""):
-    """Why not all rows were taken, or that the last frame is not whole."""
+def say_how_it_ends(report, pieces, stopped, values):
+    """Why not all rows and packets were taken, or that the last frame is not whole."""
     if isinstance(stopped, Refused):
-        report.say(STOPPED, refused(stopped.args, RECORD_TEXTS))
+        texts = CAPTIONED_TEXTS if "--packets" in values else RECORD_TEXTS
+        report.say(STOPPED, refused(stopped.args, texts))
+    elif isinstance(stopped, NotTaken):
+        report.say(STOPPED, f"{shown(values['--packets'])}: {not_taken(*stopped.args)}")
     elif stopped:
-        report.say(FAILED, f"{shown(folder)} {NO_MORE_NUMBERS}")
+        report.say(FAILED, f"{shown(values['--into'])} {NO_MORE_NUMBERS}")
     elif line_count(pieces[0]) and awaited_line(pieces[-1]) != 1:
         line, system = awaited_line(pieces[-1]), header_of(pieces[-1])[0]
         awaited = f"line {line} of {system} is awaited ({FRAME_ROWS_TEXT})"
         report.say(TAKEN, f"the last frame is not whole: {awaited}")
 
 
-def can_be_made(files, folder):
-    """Whether nothing has a folder's name and its parent is there."""
-    path = os.path.normpath(folder)
+def can_be_made(files, name):
+    """Whether nothing has a name and its parent is there."""
+    path = os.path.normpath(name)
     parent = os.path.dirname(path) or os.curdir
     return path not in files and found(files, parent) == FOLDER
+
+
+def why_not_beside(files, name):
+    """Why packets are not written into a file of this name, or None."""
+    thing = found(files, name)
+    if thing is None:
+        is_made = can_be_made(files, name) and not name.endswith("/")
+        return None if is_made else NOT_WRITTEN
+    if thing == FOLDER:
+        return NOT_WRITTEN
+    return NOT_EMPTY if thing else None
 
 
 def why_not_into(files, folder):
@@ -447,28 +578,49 @@ def with_pieces(files, folder, pieces):
     return {**files, **made}
 
 
-def record_into(report, folder, frames, system, start, data):
+def record_into(report, values, system, start, data, packets):
+    folder = values["--into"]
     why_not = why_not_into(report.files, folder)
     if why_not:
         report.say(FAILED, why_not)
         return
-    most = piece_lines(system, frames)
-    pieces, stopped = programme.record_pieces(system, start, data, most)
+    most = piece_lines(system, values.get("--frames"))
+    pieces, stopped = programme.record_pieces(system, start, data, most, packets)
     report.files = with_pieces(report.files, folder, pieces)
-    say_how_it_ends(report, pieces, stopped, folder)
+    say_how_it_ends(report, pieces, stopped, values)
+
+
+def record_out(report, values, system, start, data, packets=b""):
+    pieces, stopped = programme.record_pieces(system, start, data, packets=packets)
+    report.output = b"".join(pieces)
+    say_how_it_ends(report, pieces, stopped, values)
+
+
+def packets_for(report, values):
+    """The bytes of the packets file; None where it could not be read, which is said."""
+    if "--packets" not in values:
+        return b""
+    name = values["--packets"]
+    packets = found(report.files, name)
+    if isinstance(packets, bytes):
+        return packets
+    report.say(FAILED, f"{shown(name)} {NOT_READ}")
+    report.say(FAILED, A_PACKETS_FILE)
+    return None
 
 
 def record_answer(values, words, data, files):
     system, start = map(number_of, words)
+    check_names(values)
     report = Report("record", files)
-    # A system or line that there is not is told before any folder is looked at.
-    if "--into" in values and not judge.line_number_refusal(system, start):
-        folder, frames = values["--into"], values.get("--frames")
-        record_into(report, folder, frames, system, start, data)
-    else:
-        pieces, stopped = programme.record_pieces(system, start, data)
-        report.output = b"".join(pieces)
-        say_how_it_ends(report, pieces, stopped)
+    # A system or line that there is not is told before any file or folder is looked at.
+    if judge.line_number_refusal(system, start):
+        record_out(report, values, system, start, data)
+        return report.answer()
+    packets = packets_for(report, values)
+    if packets is not None:
+        record_to = record_into if "--into" in values else record_out
+        record_to(report, values, system, start, data, packets)
     return report.answer()
 
 
@@ -496,7 +648,7 @@ def taken_answer(verb, values, words, data, files):
     if verb in SERIAL_CALLS:
         return serial_answer(verb, data, files)
     if verb in READERS:
-        return read_answer(verb, words, data, files)
+        return read_answer(verb, values, words, data, files)
     return help_answer(files)
 
 

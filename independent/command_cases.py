@@ -9,17 +9,20 @@ from independent import command, judge, programme
 from independent.command import FAILED, Answer
 from independent.edges import EDGE_SAMPLES, SYSTEMS
 from independent.judge import fourth_offsets, line_after
-from independent.material import changed, edge_offsets, inverted, line_numbers
+from independent.material import Source, changed, edge_offsets, inverted, line_numbers
 from independent.material import plain_and_blank_line, turning_lines
 from independent.protocol import pack_slice
 from independent.recordings import HEADER_BYTES, five_lines, header, header_of, lines_of
 from independent.recordings import outcome, recording
 from independent.rows import ROW_BYTES, ROW_WORDS, row_of, samples_of_row, with_word, words_of_row
-from independent.runs import STARTS, damaged, replaced
+from independent.runs import STARTS, clean_lines, damaged, faults_in_packets, replaced
 from independent.tapes import NEVER_FULL, begin_tape, frame_rows
 
 SERIAL_PROGRAMS = ("scramble", "descramble")
-VERBS = ("confirm", "record", "extract", *SERIAL_PROGRAMS, "help")
+VERBS = ("confirm", "record", "extract", "packets", *SERIAL_PROGRAMS, "help")
+
+# From these lines on two have V = 1, and those behind them V = 0.
+BEFORE_ROWS = {525: 18, 625: 21}
 
 # In a script the command is "$@" and the input's file is "$0". Of these ways to hand
 # an input over, the second and third leave standard input to us, the last the output.
@@ -171,6 +174,16 @@ def some_recording(source, system):
     return programme.record(system, line_after(system, turn, -1), rows(source, 3))[0]
 
 
+def lines_from(source, system, start, count, written=Source.written):
+    """A short recording that need not end where a frame does."""
+    return recording(system, start, clean_lines(source, system, start, count, written))
+
+
+def captioned_recording(source, system):
+    """A short recording with packets."""
+    return lines_from(source, system, BEFORE_ROWS[system], 6, Source.captioned)
+
+
 def extract_recordings(source):
     """Clean recordings, and the same with every code damaged in one bit."""
     for system in SYSTEMS:
@@ -217,6 +230,16 @@ def extract_faults(source):
             wrong = source.wrong(system, line, offset, words[offset])
             for fault in (source.over(words[offset]), wrong):
                 yield extracted(spoilt(data, steps, offset, fault))
+
+
+def extract_captions(source):
+    """Recordings with packets: clean, damaged in their codes, with a fault among the packets."""
+    for system in SYSTEMS:
+        data = captioned_recording(source, system)
+        yield extracted(data)
+        yield extracted(damaged(source, data))
+    for data in source.random.sample([*faults_in_packets(source)], 20):
+        yield extracted(data)
 
 
 def extract_cuts(source):
@@ -334,7 +357,10 @@ def wrong_arguments(source):
         "record --into d --frames 000 625 1", "record --into d --frames 0 x y",
         "record --into d --frames 0", "record --into d --frames 0 1 2 3",
         "record --into=d 625 1", "record --into d --frames=1 625 1", "record --frame 1 625 1",
-        "record --INTO d 625 1", "record -i d 625 1",
+        "record --INTO d 625 1", "record -i d 625 1", "record --packets", "record --packets p",
+        "record --packets p 625", "record --packets p --frames 1 625 1", "record --packets=p 625 1",
+        "extract --packets", "extract --packets p 1 2", "extract --packet p", "extract --into d",
+        "confirm --packets p", "packets --packets p", "packets 1 2",
     ):  # fmt: skip
         yield case_of(words.split(), rows(source, 1))
     for verb in VERBS:
@@ -382,6 +408,7 @@ def short_inputs(source):
         yield ("record", str(system), str(any_line(source, system))), rows(source, 5)
         yield ("extract",), some_recording(source, system)
         yield ("confirm",), some_recording(source, system)
+    yield ("packets",), captioned_recording(source, 625)
     for program in SERIAL_PROGRAMS:
         yield (program,), pack_slice(source.serial_words(9_000))
 
@@ -484,10 +511,11 @@ def to_terminal(verb, files={}):
 
 
 def terminals(source):
-    """Standard output that is a terminal: the five lines go there."""
+    """Standard output that is a terminal: the five lines go there, and lists of packets."""
     for words, data in short_inputs(source):
         verb = words[0]
-        due = command.answer(words, data) if verb == "confirm" else to_terminal(verb)
+        is_text = verb in ("confirm", "packets")
+        due = command.answer(words, data) if is_text else to_terminal(verb)
         yield Case(from_file(words), data, due, TO_TERMINAL)
 
 
@@ -509,6 +537,7 @@ FAMILIES = (
     extract_recordings,
     extract_two_bits,
     extract_faults,
+    extract_captions,
     extract_cuts,
     extract_headers,
     serial_lengths,

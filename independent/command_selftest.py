@@ -18,6 +18,7 @@ from independent.command import (
     waiting,
     with_pieces,
 )
+from independent.packets_selftest import EMPTY
 from independent.programme import record
 from independent.protocol import pack_slice
 from independent.recordings import Outcome, header, lines_of, recording
@@ -31,9 +32,9 @@ FIVE_LINES = b"SYSTEM 625\nSTART 22\nLINES 2\nREPAIRS 0\nRESULT 0 0 0\n"
 ROW = "SYSTEM 625 START 22 LINES 2 REPAIRS 0 RESULT 0 0 0"
 
 
-def two_lines_with(steps, offset, word):
-    """The two lines with one word changed."""
-    lines = replaced(lines_of(TWO_LINES), steps, {offset: word})
+def two_lines_with(steps, offset, *words):
+    """The two lines with words of one changed from an offset on."""
+    lines = replaced(lines_of(TWO_LINES), steps, dict(enumerate(words, offset)))
     return recording(625, 22, lines)
 
 
@@ -78,10 +79,17 @@ def wrong_uses():
         ("record --into d --frames 0 x", "record: --frames takes 1 or more"),
         ("record --frames 0 x", "record: --frames goes with --into"),
         ("record --frame 1 625 1", "record: there is no option --frame"),
+        ("record --packets p", "record: an argument is missing"),
+        ("record --packets  625 1", "record: an argument is missing"),
+        ("extract --packets", "extract: an argument is missing"),
+        ("extract --packets p a b", "extract: there is no place for the argument b"),
+        ("packets --packets p", "packets: there is no option --packets"),
+        ("packets a b", "packets: there is no place for the argument b"),
     ):
         verb = said.partition(":")[0]
         due = Answer(b"", text(said, f"usage: fiskrogn {USES[verb]}"), 2)
-        yield f"fiskrogn {words}", answer(words.split(), BLACK_ROW), due
+        given = words.split(" ") if words else []
+        yield f"fiskrogn {words}", answer(given, BLACK_ROW), due
 
 
 def right_uses():
@@ -118,7 +126,19 @@ def said_refusals():
         (two_lines_with(0, 4, 513), "10, line 22, place 4: fill is due and is not there"),
         (
             two_lines_with(1, 288, 3),
-            "11, line 23, place 288: a reserved word stands where a sample is due",
+            "11, line 23, place 288: a reserved word stands where a sample or a user word is due",
+        ),
+        (
+            two_lines_with(1, 4, *EMPTY, *EMPTY[:4], 0),
+            "15, line 23, place 15: a header word of a packet has bad parity",
+        ),
+        (
+            two_lines_with(0, 288, *EMPTY[:6], 0),
+            "16, line 22, place 294: a packet's checksum is wrong",
+        ),
+        (
+            two_lines_with(1, 4, *EMPTY * 3, *EMPTY[:5], 767),
+            "17, line 23, place 30: a packet runs past its space",
         ),
     ):
         due = (text(f"confirm: refused {said}"), 1)
@@ -281,7 +301,7 @@ def extracted_files():
     errors = text(
         "SYSTEM 625 START 22 LINES 1 REPAIRS 0 RESULT 11 23 288 d/0001.rec",
         "extract: d/0001.rec: refused 11, line 23, place 288: "
-        "a reserved word stands where a sample is due",
+        "a reserved word stands where a sample or a user word is due",
         "FILES 1 LINES 1 HOURS 0.0000 REPAIRS 0 REFUSED 1 UNREAD 0",
     )
     yield "refused", answer(["extract", "d"], b"", files), Answer(b"", errors, 1, files)
@@ -334,7 +354,7 @@ def recorded_into():
     said = text("record: refused 2, line 0, place 0: the start line is not one of the system")
     yield "no line", answer([*words[:-1], "626"], BLACK_ROW), Answer(b"", said, 1)
     report = Report("record", {})
-    say_how_it_ends(report, [first], programme.Unnumbered(), "a\nd")
+    say_how_it_ends(report, [first], programme.Unnumbered(), {"--into": "a\nd"})
     said = text(r"record: a\x0ad holds 9999 recordings, and no more can be numbered")
     yield "no more numbers", report.answer(), Answer(b"", said, 2)
     yield "a terminal", waiting("record"), text("record: waits for v210 rows on standard input")

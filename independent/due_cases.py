@@ -5,7 +5,7 @@ from itertools import cycle, product
 from independent import judge, protocol
 from independent.edges import ALL_PLACES, ANY_SYSTEMS, EDGE_PLACES, EDGE_SAMPLES, EDGE_WORDS
 from independent.edges import HIGHEST, HIGHEST_WIDE, SYSTEMS
-from independent.judge import Due, samples_of, system_of
+from independent.judge import NO_READY, Due, samples_of, system_of
 from independent.material import changed, edge_offsets, slice_lengths, word_lengths
 from independent.protocol import Wide
 
@@ -50,8 +50,8 @@ def room(source, due):
 
 def writings(source, due, part):
     """An active part to be written as samples and as a whole."""
-    yield protocol.WRITE_LINE, (due, *samples_of(part), room(source, due))
-    yield protocol.WRITE_PART, (due, part, room(source, due))
+    yield protocol.WRITE_LINE, (due, *samples_of(part), *NO_READY, room(source, due))
+    yield protocol.WRITE_PART, (due, part, *NO_READY, room(source, due))
 
 
 def dues_written(source):
@@ -87,8 +87,8 @@ def written_lengths(source):
         for length, *sizes in slice_lengths(system):
             pictures = zip(samples_of(source.picture() * 2), sizes)
             samples = [samples[:size] for samples, size in pictures]
-            yield protocol.WRITE_LINE, (due, *samples, source.junk(length))
-            yield protocol.WRITE_LINE, (due, *map(source.junk, sizes), source.junk(length))
+            for lent in (samples, list(map(source.junk, sizes))):
+                yield protocol.WRITE_LINE, (due, *lent, *NO_READY, source.junk(length))
 
 
 def part_lengths(source):
@@ -99,8 +99,8 @@ def part_lengths(source):
         for length in word_lengths(system_of(system)):
             due = Due(system, source.random.randrange(2), v, *source.junk(2))
             picture, words = source.picture() * 2, source.junk(length)
-            yield protocol.WRITE_PART, (due, picture[:size], words)
-            yield protocol.WRITE_PART, (due, source.junk(size), words)
+            for part in (picture[:size], source.junk(size)):
+                yield protocol.WRITE_PART, (due, part, *NO_READY, words)
 
 
 FAMILIES = (

@@ -2,6 +2,7 @@
 
 from independent import judge
 from independent.judge import LINES_LIMIT
+from independent.words import LAST_REFUSAL
 
 HIGHEST = 2**32 - 1
 HIGHEST_WIDE = 2**64 - 1
@@ -49,7 +50,7 @@ EDGE_COUNTS = (
 )
 
 # Numbers about those of any refusal, and beyond them.
-EDGE_NUMBERS = (*range(judge.LAST_REFUSAL + 2), 255, 256, 65_536, 2**31, HIGHEST)
+EDGE_NUMBERS = (*range(LAST_REFUSAL + 2), 255, 256, 65_536, 2**31, HIGHEST)
 EDGE_SUMS = (0, 1, 2**31, 2**32 - 1, 2**32, 2**63, 2**64 - 2**32, 2**64 - 2, 2**64 - 1)
 
 # Most lines of a recording: none, those of a frame or two, the limit, any.

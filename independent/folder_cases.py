@@ -14,6 +14,7 @@ from independent.command_cases import (
     case_of,
     failed,
     from_file,
+    lines_from,
     on_terminal,
     rows,
     some_recording,
@@ -26,8 +27,9 @@ from independent.command_cases import (
 )
 from independent.edges import SYSTEMS
 from independent.judge import line_after
-from independent.recordings import HEADER_BYTES, header, recording
-from independent.runs import STARTS, clean_lines, damaged
+from independent.material import Source
+from independent.recordings import HEADER_BYTES, header
+from independent.runs import STARTS, damaged
 from independent.tapes import frame_rows
 
 READING_VERBS = ("confirm", "extract")
@@ -41,15 +43,10 @@ LONG_NAME = 256 * "x"
 DASHED_NAMES = ("-x.rec", "--", "--help", "-h", "--into")
 
 
-def lines_from(source, system, start, count):
-    """A short recording that need not end where a frame does."""
-    return recording(system, start, clean_lines(source, system, start, count))
-
-
-def consecutive(source, system, start, counts):
+def consecutive(source, system, start, counts, written=Source.written):
     """Recordings of so many lines each, of which each goes on where the one before ends."""
     starts = [line_after(system, start, sum(counts[:n])) for n in range(len(counts))]
-    return [lines_from(source, system, *pair) for pair in zip(starts, counts)]
+    return [lines_from(source, system, *pair, written) for pair in zip(starts, counts)]
 
 
 def refused(data, steps=1):
@@ -270,7 +267,7 @@ def folders_to_record_into(source):
     ):  # fmt: skip
         for frames in (None, 1):
             yield case_of(into("d", 625, 623, frames), data, files)
-    for name in (*ODD_NAMES, "d/", "./d", "a/d", "none/d", "none/d/", "f/", "f/d", ".", "a/"):
+    for name in (*ODD_NAMES, "", "d/", "./d", "a/d", "none/d", "none/d/", "f/", "f/d", ".", "a/"):
         yield case_of(into(name, 525, 525, 1), data, {"a": FOLDER, "f": b""})
     yield case_of(("record", "--frames", "1", "--into", "d", "--", "525", "525"), data)
     for folder, unmade in (("/proc", "/proc/0001.rec"), *((n, n) for n in ("/proc/d", LONG_NAME))):

@@ -1,14 +1,37 @@
 """The rules of digital lines, of the walk, of the serial form and of the capture process.
 
 Each rule stands beside the sentence of document 01 ("Precise rules and scope
-of the build") that it obeys, given between quotation marks. Words and samples
-are lists of 16-bit integers, the numbers of a walk are 32-bit integers. A
-refusal is a pair of number and place; None stands where nothing is refused.
+of the build") that it obeys, given between quotation marks; those on packets
+are of request L6 of document 02. Words and samples are lists of 16-bit
+integers, the numbers of a walk are 32-bit integers. A refusal is a pair of
+number and place; None stands where nothing is refused.
 """
 
 import struct
 from functools import lru_cache
 from typing import NamedTuple
+
+from independent.packets import judge_space, ready_fault
+from independent.words import (
+    ACCEPTED,
+    LAST_WORD,
+    NOT_A_SAMPLE,
+    NOT_DUE,
+    NO_BIT_9,
+    NO_LINE,
+    NO_PATTERN,
+    NO_PREAMBLE,
+    NO_SYSTEM,
+    OVER_A_WORD,
+    RESERVED,
+    WORD_BITS,
+    WRONG_COUNTS,
+    WRONG_LENGTH,
+    WRONG_STATE,
+    first_fault,
+    is_sample,
+    over_refusal,
+)
 
 
 class System(NamedTuple):
@@ -57,33 +80,6 @@ class Walk(NamedTuple):
 # "a walk all zero"
 NO_WALK = Walk(*[0] * len(Walk._fields))
 
-
-# The refusal numbers, each with its row of the document's table.
-NO_SYSTEM = 1  # "system is neither 525 nor 625"
-NO_LINE = 2  # "line number outside 1 to 525, or 1 to 625"
-WRONG_LENGTH = 3  # "a slice has the wrong length"
-WRONG_COUNTS = 4  # "lines read is 10,000,000 or more, or repairs exceed twice lines read"
-OVER_A_WORD = 5  # "a word over 1023"
-NO_PREAMBLE = 6  # "one of the first three words of a timing code is wrong"
-NO_BIT_9 = 7  # "bit 9 of a fourth word is 0"
-NO_PATTERN = 8  # "seven bits with no legal pattern within one bit"
-NOT_DUE = 9  # "the corrected F, V, H are not those due here"
-NO_FILL = 10  # "fill is due and is not there"
-RESERVED = 11  # "a reserved word where a sample is due"
-NOT_A_SAMPLE = 12  # "sample to be written is outside 4 to 1019"
-WRONG_STATE = 13  # "serial state: scrambled bits over 511 or last bit over 1"
-LAST_REFUSAL = WRONG_STATE
-
-# "Every answer has a number and a place."; "0 | accepted | 0".
-ACCEPTED = (0, 0)
-
-# "A word is 10 bits, 0 to 1023, held in 16 bits."
-WORD_BITS = 10
-LAST_WORD = 1023
-
-# "A sample is 4 to 1019; 0 to 3 and 1020 to 1023 are reserved."
-FIRST_SAMPLE = 4
-LAST_SAMPLE = 1019
 
 # "Active part: CB, Y, CR, Y repeated, 1440 words: 720 Y, 360 CB, 360 CR."
 CB_PLACES = slice(0, None, 4)
@@ -342,16 +338,6 @@ def bytes_refusal(system, data):
     return length_refusal((len(data),), (line_size(system),))
 
 
-def is_sample(word):
-    # "A sample is 4 to 1019"
-    return FIRST_SAMPLE <= word <= LAST_SAMPLE
-
-
-def over_refusal(words):
-    """The first word over 1023, its place being its index."""
-    return next(((OVER_A_WORD, i) for i, word in enumerate(words) if word > LAST_WORD), None)
-
-
 def fourth_word_number(fvh, word):
     """The number of what is wrong with the fourth word of a code, or 0."""
     _, corrected, _, number = correct(word)
@@ -361,15 +347,13 @@ def fourth_word_number(fvh, word):
 
 @lru_cache(maxsize=None)
 def number_where(due, word):
-    """The number of what is wrong with a word where this is due, or 0."""
+    """The number of what is wrong with a word of a code, or for a sample, or 0."""
     what, value = due
     # "at one offset 5 comes before 6 to 11"
     if word > LAST_WORD:
         return OVER_A_WORD
     if what == FOURTH_WORD:
         return fourth_word_number(value, word)
-    if what == FILL_WORD:
-        return 0 if word == value else NO_FILL
     if what == SAMPLE:
         return 0 if is_sample(word) else RESERVED
     # "The reader takes no notice of bits 1 and 0 of timing words: 1020 to 1023
@@ -377,10 +361,37 @@ def number_where(due, word):
     return 0 if word >> 2 == (LAST_WORD >> 2 if what == ONES else 0) else NO_PREAMBLE
 
 
-def line_refusal(due, words):
+def spaces(due):
+    """Where each of the two spaces of a line starts, and the offset behind it."""
+    # "the space between EAV and SAV, or of the active part on V = 1 lines": with
+    # V = 0 the second has no words.
+    figures, active = SYSTEMS[due.system], active_start(due.system)
+    return (CODE_WORDS, figures.sav), (active, figures.words if due.v else active)
+
+
+def judged_spaces(due, words):
+    """The answers to both spaces of a line."""
+    return [judge_space(words, *space, due.even, due.odd) for space in spaces(due)]
+
+
+def fault_outside(due, words, start, end):
+    """The first fault from one offset to another that are in no space, or None."""
+    return first_fault(map(number_where, dues(due)[start:end], words[start:end]), start)
+
+
+def faults_in_turn(due, words, answers):
+    """The first fault of each part of a line, or None: of the spaces as they are answered."""
+    at = 0
+    for (start, end), answer in zip(spaces(due), answers):
+        yield fault_outside(due, words, at, start)
+        yield answer[:2] if answer.number else None
+        at = end
+    yield fault_outside(due, words, at, len(words))
+
+
+def line_refusal(due, words, answers):
     """The refusal at the lowest offset with any fault."""
-    numbers = map(number_where, dues(due), words)
-    return next(((number, offset) for offset, number in enumerate(numbers) if number), None)
+    return next(filter(None, faults_in_turn(due, words, answers)), None)
 
 
 def fresh(system, line):
@@ -409,6 +420,16 @@ def moved(walk, due, report):
     )
 
 
+# "The reader also answers how many words of each space are packets, 0 if it
+# refuses."
+class PacketWords(NamedTuple):
+    between: int
+    active: int
+
+
+NO_PACKETS = PacketWords(0, 0)
+
+
 class Judgement(NamedTuple):
     """The answer to a line that is judged."""
 
@@ -416,29 +437,34 @@ class Judgement(NamedTuple):
     place: int
     report: Report
     walk: Walk
+    packets: PacketWords
 
 
 def refused(walk, number, place):
     # "A refused line leaves the walk standing and may be offered again; its
     # report says clean for both codes."
-    return Judgement(number, place, CLEAN_REPORT, walk)
+    return Judgement(number, place, CLEAN_REPORT, walk, NO_PACKETS)
 
 
-def accepted(walk, due, report):
-    return Judgement(*ACCEPTED, report, moved(walk, due, report))
+def accepted(walk, due, report, packets):
+    return Judgement(*ACCEPTED, report, moved(walk, due, report), packets)
 
 
 def judged(walk, words):
     """The judgement of a line's words; sample buffers play no role."""
     # "Reader: 1, 2, 4, 3, then the lowest offset with any fault"
-    refusal = (
-        walk_refusal(walk)
-        or words_refusal(walk.system, words)
-        or line_refusal(due_in(walk, words), words)
-    )
+    refusal = walk_refusal(walk) or words_refusal(walk.system, words)
+    return refused(walk, *refusal) if refusal else judged_line(walk, due_in(walk, words), words)
+
+
+def judged_line(walk, due, words):
+    """The judgement of as many words as the line has in which this is due."""
+    answers = judged_spaces(due, words)
+    refusal = line_refusal(due, words, answers)
     if refusal:
         return refused(walk, *refusal)
-    return accepted(walk, due_in(walk, words), line_report(walk.system, words))
+    packets = PacketWords(*(answer.packets for answer in answers))
+    return accepted(walk, due, line_report(due.system, words), packets)
 
 
 def samples_of(part):
@@ -480,56 +506,87 @@ def active(walk, words):
     return [] if judged(walk, words).number else active_part(walk.system, words)
 
 
+def packets_in(walk, words):
+    """The words of each space that are packets, none where judging refuses the line."""
+    counts = judged(walk, words).packets
+    starts = CODE_WORDS, active_start(system_of(walk.system))
+    return [words[start : start + count] for start, count in zip(starts, counts)]
+
+
 def timing_code(due, h):
     # "The writer sets low bits as shown"
     return [*PREAMBLE, FOURTH_WORDS[due_flags(due, h)]]
 
 
-def written_refusal(due, part):
-    # "then 12 at the lowest place, on V = 0 lines only"
-    return None if due.v else sample_refusal(part)
+# Ready packet words for the two spaces, where there are none.
+NO_READY = [], []
+
+
+def ready_length_refusal(due, *ready):
+    # "More words than the space holds, or any for the active part with V = 0, is 3,
+    # place 4 or 5"
+    for place, ((start, end), words) in enumerate(zip(spaces(due), ready), 4):
+        if len(words) > end - start:
+            return (WRONG_LENGTH, place)
+    return None
+
+
+def ready_refusal(due, *ready):
+    """What refuses the ready packet words of both spaces."""
+    # "then they are judged as a space of just their length, by line offsets"
+    faults = (ready_fault(words, start) for (start, _), words in zip(spaces(due), ready))
+    return ready_length_refusal(due, *ready) or next(filter(None, faults), None)
+
+
+def written_refusal(due, part, *ready):
+    # "and 12 comes last"; "on V = 0 lines only"
+    return ready_refusal(due, *ready) or (None if due.v else sample_refusal(part))
 
 
 def sample_refusal(part):
-    # "its place in the active part, 0 to 1439"
+    # "then 12 at the lowest place"; "its place in the active part, 0 to 1439"
     if is_sample(min(part)) and is_sample(max(part)):
         return None
     return next((NOT_A_SAMPLE, i) for i, sample in enumerate(part) if not is_sample(sample))
 
 
-def fill_between(due, start, end):
-    return [fill_at(due, offset) for offset in range(start, end)]
+def filled_up(due, start, end, ready):
+    """The words of a space that is written."""
+    # "The writer takes ready packet words for each space and fills the rest."
+    rest = range(start + len(ready), end)
+    return [*ready, *(fill_at(due, offset) for offset in rest)]
 
 
-def line_of(due, part=()):
+def line_of(due, part, *ready):
     """The words of a line that is written; with V = 1 its active part is not looked at."""
-    figures, active = SYSTEMS[due.system], active_start(due.system)
-    between = fill_between(due, CODE_WORDS, figures.sav)
+    between, active = (filled_up(due, *ends, words) for ends, words in zip(spaces(due), ready))
     # "On lines with V = 1 the active part is fill"
-    behind = fill_between(due, active, figures.words) if due.v else list(part)
+    behind = active if due.v else list(part)
     return timing_code(due, 1) + between + timing_code(due, 0) + behind
 
 
-def written(due, part, words):
-    """Number, place and the words afterwards, where all lengths are right."""
-    refusal = written_refusal(due, part)
+def written(due, part, between, active, words):
+    """Number, place and the words afterwards, where those and the part have their lengths."""
+    refusal = written_refusal(due, part, between, active)
     # "No refusal writes a buffer."
-    return (*refusal, words) if refusal else (*ACCEPTED, line_of(due, part))
+    return (*refusal, words) if refusal else (*ACCEPTED, line_of(due, part, between, active))
 
 
-def write_line(due, y, cb, cr, words):
+def write_line(due, y, cb, cr, between, active, words):
     """Number, place and the words afterwards of the line in which this is due."""
     # "Writer: 1, 2, 3, then 12": by whatever number, so that 1 and 2 have no place.
     lengths = len(y), len(cb), len(cr)
     refusal = words_refusal(due.system, words) or buffers_refusal(*lengths)
-    return (*refusal, words) if refusal else written(due, interleaved(y, cb, cr), words)
+    if refusal:
+        return (*refusal, words)
+    return written(due, interleaved(y, cb, cr), between, active, words)
 
 
-def write(system, line, y, cb, cr, words):
+def write(system, line, *slices):
     """Number, place and the line's words afterwards."""
     # "Writer: 1, 2, 3, then 12"
     refusal = line_number_refusal(system, line)
-    return (*refusal, words) if refusal else write_line(due_of(system, line), y, cb, cr, words)
+    return (*refusal, slices[-1]) if refusal else write_line(due_of(system, line), *slices)
 
 
 def serial_refusal(bits, last, words, out):

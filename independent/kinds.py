@@ -3,7 +3,8 @@
 import struct
 from typing import Callable, NamedTuple
 
-from independent import calls, judge, protocol, recordings, rows, tapes, totals
+from independent import calls, captions, judge, packets, protocol, recordings, rows, tapes
+from independent import totals
 
 
 class Kind(NamedTuple):
@@ -14,8 +15,20 @@ class Kind(NamedTuple):
     heads: tuple
 
 
-def counted_active(walk, words):
-    part = judge.active(walk, words)
+def active(walk, words):
+    return counted(judge.active(walk, words))
+
+
+def between_packets(walk, words):
+    return counted(judge.packets_in(walk, words)[0])
+
+
+def active_packets(walk, words):
+    return counted(judge.packets_in(walk, words)[1])
+
+
+def counted(part):
+    """A part of the caller's line, behind its length."""
     return len(part), part
 
 
@@ -23,9 +36,11 @@ WALK = judge.Walk._fields
 ANSWER = ("number", "place")
 CORRECTION = ("tag", "fvh", "bit", "number")
 REPORT = ("eav", "eav bit", "sav", "sav bit")
-JUDGEMENT = (*ANSWER, *REPORT, *WALK)
+PACKETS = ("between packets", "active packets")
+JUDGEMENT = (*ANSWER, *REPORT, *WALK, *PACKETS)
 STATE = ("bits", "last")
 SAMPLES = ("y", "cb", "cr")
+READY = ("between", "active")
 DUE = judge.Due._fields
 RUN = ("system", "start", *(f"walk's {name}" for name in WALK), *ANSWER)
 OUTCOME = recordings.Outcome._fields
@@ -45,8 +60,8 @@ LINES = {
     protocol.CORRECT: Kind(judge.correct, ("word",), CORRECTION),
     protocol.FRESH: Kind(judge.fresh, ("system", "line"), (*ANSWER, *WALK)),
     protocol.TAKE: Kind(judge.take, ("walk", "words", *SAMPLES), ANSWER),
-    protocol.ACTIVE: Kind(counted_active, ("walk", "words"), ("count",)),
-    protocol.WRITE: Kind(judge.write, ("system", "line", *SAMPLES, "words"), ANSWER),
+    protocol.ACTIVE: Kind(active, ("walk", "words"), ("count",)),
+    protocol.WRITE: Kind(judge.write, ("system", "line", *SAMPLES, *READY, "words"), ANSWER),
     protocol.CODE: Kind(judge.code, (*STATE, "words", "out"), (*ANSWER, *STATE)),
     protocol.DECODE: Kind(judge.decode, (*STATE, "words", "out"), (*ANSWER, *STATE)),
     protocol.CAPTURE_CORRECT: Kind(judge.capture_correct, ("word",), ("answer",)),
@@ -78,20 +93,25 @@ SHARED = {
     ),
     protocol.FIRST_OVER: Kind(calls.first_over, ("words",), ANSWER),
     protocol.REFUSED: Kind(judge.refused, ("walk", *ANSWER), JUDGEMENT),
-    protocol.ACCEPTED: Kind(calls.accepted, ("walk", "due", "report"), JUDGEMENT),
+    protocol.ACCEPTED: Kind(calls.accepted, ("walk", "due", "report", "packets"), JUDGEMENT),
     protocol.JUDGE: Kind(judge.judged, ("walk", "words"), JUDGEMENT),
-    protocol.WRITE_LINE: Kind(calls.write_line, ("due", *SAMPLES, "words"), ANSWER),
-    protocol.WRITE_PART: Kind(calls.write_part, ("due", "part", "words"), ANSWER),
+    protocol.WRITE_LINE: Kind(calls.write_line, ("due", *SAMPLES, *READY, "words"), ANSWER),
+    protocol.WRITE_PART: Kind(calls.write_part, ("due", "part", *READY, "words"), ANSWER),
+    protocol.BETWEEN_PACKETS: Kind(between_packets, ("walk", "words"), ("count",)),
+    protocol.ACTIVE_PACKETS: Kind(active_packets, ("walk", "words"), ("count",)),
     protocol.BYTEWISE_JUDGE: Kind(judge.judge_bytes, ("walk", "data"), JUDGEMENT),
     protocol.TO_WORDS: Kind(calls.to_words, ("data", "words"), ANSWER),
     protocol.TO_BYTES: Kind(calls.to_bytes, ("words", "data"), ANSWER),
     protocol.STATE_FRESH: Kind(calls.fresh_state, (), STATE),
+    protocol.JUDGE_SPACE: Kind(
+        packets.judge_space, ("words", "start", "end", "even", "odd"), (*ANSWER, "packets")
+    ),
 }
 
 PROGRAMMES = {
     protocol.UNPACK: Kind(rows.unpack, ("row", "samples"), ANSWER),
     protocol.PACK: Kind(rows.pack, ("samples", "row"), ANSWER),
-    protocol.RECORD: Kind(tapes.record, ("walk", "row", "line"), JUDGEMENT),
+    protocol.RECORD: Kind(tapes.record, ("walk", "row", *READY, "line"), JUDGEMENT),
     protocol.EXTRACT: Kind(tapes.extract, ("walk", "data", "row"), JUDGEMENT),
     protocol.TAKES_ROW: Kind(tapes.takes_row, ("walk",), ("takes",)),
     protocol.ENDS_FRAME: Kind(tapes.ends_frame, ("walk",), ("ends",)),
@@ -102,7 +122,7 @@ PROGRAMMES = {
     protocol.TURNS: Kind(tapes.turns, ("tape",), ("turns",)),
     protocol.TURNED: Kind(tapes.turned, ("tape",), TAPE),
     protocol.TAPE_ENDS: Kind(tapes.tape_ends, ("tape",), ("ends",)),
-    protocol.TAPE_NEXT: Kind(tapes.tape_next, ("tape", "row", "line"), TAPE),
+    protocol.TAPE_NEXT: Kind(tapes.tape_next, ("tape", "row", *READY, "line"), TAPE),
     protocol.LINE_BYTES: Kind(calls.line_sizes, ("walk",), ("words", "bytes")),
     protocol.BEGIN: Kind(recordings.begin, ("header",), RUN),
     protocol.NEXT: Kind(recordings.with_line, ("run", "data"), RUN),
@@ -123,7 +143,15 @@ ARRIVALS = {
     protocol.FILLED_AFTER: Kind(calls.filled_after, ("filled", "told", "room"), FILLED),
 }
 
-KINDS = {**LINES, **SHARED, **PROGRAMMES, **ARRIVALS}
+ENTRY = (*wide("ordinal"), "space", "words")
+HEADS = {
+    protocol.JUDGE_HEAD: Kind(
+        captions.judge_head, ("least", "head"), ("number", *ENTRY, *wide("least"))
+    ),
+    protocol.PUT_HEAD: Kind(captions.put_head, ("entry", "head"), ANSWER),
+}
+
+KINDS = {**LINES, **SHARED, **PROGRAMMES, **ARRIVALS, **HEADS}
 
 # The library's calls that each kind asks, by crate and name.
 ASKED = {
@@ -168,7 +196,7 @@ ASKED = {
     protocol.DUE_AT: ("line::due_at",),
     protocol.BUFFER_REFUSAL: ("line::buffer_refusal",),
     protocol.WALK_DUE: ("system::Walk::due",),
-    protocol.RESERVED: ("line::reserved",),
+    protocol.RESERVED: ("words::reserved",),
     protocol.WORD_OF: ("words::word_of", "words::pair_of"),
     protocol.FIRST_OVER: ("words::first_over",),
     protocol.REFUSED: ("system::Judgement::refused",),
@@ -176,10 +204,13 @@ ASKED = {
     protocol.JUDGE: ("reader::judge",),
     protocol.WRITE_LINE: ("writer::write_line",),
     protocol.WRITE_PART: ("writer::write_part",),
+    protocol.BETWEEN_PACKETS: ("reader::between_packets",),
+    protocol.ACTIVE_PACKETS: ("reader::active_packets",),
     protocol.BYTEWISE_JUDGE: ("bytewise::judge",),
     protocol.TO_WORDS: ("words::to_words",),
     protocol.TO_BYTES: ("words::to_bytes",),
     protocol.STATE_FRESH: ("serial::State::fresh",),
+    protocol.JUDGE_SPACE: ("packets::judge_space",),
     protocol.UNPACK: ("v210::unpack",),
     protocol.PACK: ("v210::pack",),
     protocol.RECORD: ("programme::record",),
@@ -209,6 +240,8 @@ ASKED = {
     protocol.TELLS: ("intake::tells",),
     protocol.SO_FAR: ("intake::Filled::so_far",),
     protocol.FILLED_AFTER: ("intake::Filled::after",),
+    protocol.JUDGE_HEAD: ("captions::judge_head",),
+    protocol.PUT_HEAD: ("captions::put_head",),
 }
 
 # Crates and calls that no kind asks, and why.
@@ -234,9 +267,13 @@ def expected_answer(case):
     return protocol.pack_numbers(*numbers) + protocol.pack_slices(slices)
 
 
+# The kinds whose answer is a part of the caller's line.
+PARTS = (protocol.ACTIVE, protocol.BETWEEN_PACKETS, protocol.ACTIVE_PACKETS)
+
+
 def answer_size(case, expected, answers, start):
-    """The size of the answer that starts there; an active part brings its own count."""
-    if case.kind != protocol.ACTIVE or len(answers) < start + 4:
+    """The size of the answer that starts there; a part of a line brings its own count."""
+    if case.kind not in PARTS or len(answers) < start + 4:
         return len(expected)
     return 4 + 2 * struct.unpack_from("<I", answers, start)[0]
 

@@ -6,9 +6,12 @@ from typing import NamedTuple
 
 from independent import judge
 from independent.edges import RESERVED_WORDS, SYSTEMS
-from independent.judge import CODE_BITS, fourth_offsets, line_after, samples_of
+from independent.judge import CODE_BITS, NO_READY, fourth_offsets, line_after, samples_of
+from independent.packets import LEAST_WORDS, packet
+from independent.words import FIRST_SAMPLE, LAST_SAMPLE
 
 STORE_SIZE = 20_000
+LEGAL = range(FIRST_SAMPLE, LAST_SAMPLE + 1)
 
 
 class Choice(NamedTuple):
@@ -119,8 +122,7 @@ class Source:
     def __init__(self, seed, family):
         self.random = Random(f"{seed} {family}")
         self.any_words = self.random.choices(range(65536), k=STORE_SIZE)
-        legal = range(judge.FIRST_SAMPLE, judge.LAST_SAMPLE + 1)
-        self.any_samples = self.random.choices(legal, k=STORE_SIZE)
+        self.any_samples = self.random.choices(LEGAL, k=STORE_SIZE)
 
     def cut(self, store, length):
         start = self.random.randrange(STORE_SIZE - length + 1)
@@ -144,10 +146,40 @@ class Source:
     def serial_words(self, length):
         return self.random.choices(range(judge.LAST_WORD + 1), k=length)
 
-    def written(self, system, line):
-        """A clean line with random samples."""
+    def written(self, system, line, ready=NO_READY):
+        """A clean line with random samples, and packets if they are given."""
         words = self.junk(judge.SYSTEMS[system].words)
-        return judge.write(system, line, *samples_of(self.picture()), words)[2]
+        return judge.write(system, line, *samples_of(self.picture()), *ready, words)[2]
+
+    def packet(self, count):
+        """A packet of so many user words."""
+        identifiers = self.random.choices(range(256), k=2)
+        return packet(*identifiers, self.random.choices(LEGAL, k=count))
+
+    def packets(self, size):
+        """Packets one after another, so many words of them: none, or at least those of one."""
+        words = []
+        while len(words) < size:
+            left = size - len(words)
+            counts = range(min(left - LEAST_WORDS, 255) + 1)
+            apt = [n for n in counts if left - n - LEAST_WORDS not in range(1, LEAST_WORDS)]
+            words += self.packet(self.random.choice(apt))
+        return words
+
+    def some_packets(self, room):
+        """Packets that leave none, a few or many words of a room, or no packets at all."""
+        few = room - self.random.randrange(2 * LEAST_WORDS)
+        size = self.random.choice((0, few, self.random.randrange(LEAST_WORDS, room)))
+        return self.packets(size)
+
+    def ready(self, due):
+        """Ready packet words for the spaces of a line in which this is due."""
+        rooms = [end - start for start, end in judge.spaces(due)]
+        return [self.some_packets(room) if room else [] for room in rooms]
+
+    def captioned(self, system, line):
+        """A clean line with random samples and packets."""
+        return self.written(system, line, self.ready(judge.due_of(system, line)))
 
     def counts(self):
         """Lines read and repairs that a walk may hold."""

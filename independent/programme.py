@@ -3,8 +3,12 @@
 What the command says of all this, and of files, is in command.py.
 """
 
+from typing import NamedTuple
+
 from independent import judge
-from independent.recordings import HEADER_BYTES, begin, header, line_bytes, parts
+from independent.entries import FIRST_ORDINAL, Entries, NotTaken
+from independent.packets import START
+from independent.recordings import HEADER_BYTES, Run, begin, header, line_bytes, parts
 from independent.rows import ROW_BYTES
 from independent.tapes import (
     NEVER_FULL,
@@ -23,6 +27,9 @@ NO_ROW = bytes(ROW_BYTES)
 # Recordings of one programme are numbered with four digits, from 1 on.
 LAST_NUMBER = 9_999
 
+# No accepted line without packets has these bytes.
+PACKET_BYTES = judge.bytes_of(START)
+
 
 class Refused(Exception):
     """A row that is not recorded, with number, awaited line and place."""
@@ -33,10 +40,11 @@ class Unnumbered(Exception):
 
 
 class Recorder:
-    """Recordings while they are written: the tape, and the bytes of each."""
+    """Recordings while they are written: the tape, the bytes of each, the packets that are left."""
 
-    def __init__(self, tape):
+    def __init__(self, tape, packets=b""):
         self.tape, self.pieces = tape, []
+        self.entries, self.ordinal = Entries(packets), FIRST_ORDINAL
         self.begin_piece()
 
     def begin_piece(self):
@@ -52,11 +60,13 @@ class Recorder:
 
     def put_line(self, row=NO_ROW):
         self.turn_if_full()
+        ready = self.entries.ready_for(self.ordinal)
         room = bytes(line_bytes(self.tape.walk))
-        tape, line = tape_next(self.tape, row, room)
+        tape, line = tape_next(self.tape, row, *ready, room)
         if tape.number:
             raise Refused(tape.number, tape.walk.line, tape.place)
         self.tape = tape
+        self.ordinal += 1
         self.pieces[-1] += line
 
     def put_row(self, row):
@@ -68,10 +78,26 @@ class Recorder:
         for row in parts(data, ROW_BYTES):
             self.put_row(row)
 
-    def close(self):
-        """Fill up to the end of the frame, as far as there may be lines."""
+    def end_frame(self):
+        """Lines up to the end of the frame, as far as there may be lines."""
         while tape_ends(self.tape):
             self.put_line()
+
+    def goes_on(self):
+        """Whether there may be a line more, and it takes no row."""
+        is_full = judge.walk_refusal(self.tape.walk) and not turns(self.tape)
+        return not is_full and not takes_row(self.tape.walk)
+
+    def put_entries(self):
+        """Lines as far as entries are left."""
+        while self.entries.are_left():
+            if self.entries.entry is None or not self.goes_on():
+                self.entries.refuse()
+            self.put_line()
+
+    def close(self):
+        self.end_frame()
+        self.put_entries()
 
     def put_all(self, data):
         self.put_rows(data)
@@ -82,17 +108,17 @@ def stop_of(call, *arguments):
     """Why a recorder's call did not write all, or None."""
     try:
         call(*arguments)
-    except (Refused, Unnumbered) as stopped:
+    except (Refused, Unnumbered, NotTaken) as stopped:
         return stopped
     return None
 
 
-def record_pieces(system, start, data, most=NEVER_FULL):
-    """The recordings of the rows, in turn, and why not all were taken, or None."""
+def record_pieces(system, start, data, most=NEVER_FULL, packets=b""):
+    """The recordings of rows and packets, in turn, and why not all were taken, or None."""
     tape = begin_tape(system, start, most)
     if tape.number:
         return [], Refused(tape.number, 0, tape.place)
-    recorder = Recorder(tape)
+    recorder = Recorder(tape, packets)
     stopped = stop_of(recorder.put_all, data)
     return list(map(bytes, recorder.pieces)), stopped
 
@@ -103,13 +129,37 @@ def record(system, start, data):
     return b"".join(pieces), stopped and stopped.args
 
 
+class Carried(NamedTuple):
+    """The packets of a line: its place in its recording, its number, the words of each space."""
+
+    ordinal: int
+    line: int
+    spaces: list
+
+
+def carried(walk, line):
+    """The packets of a line that is accepted at a walk."""
+    words = judge.words_of(line)
+    return Carried(walk.lines_read, walk.line, judge.packets_in(walk, words))
+
+
+class Extracted(NamedTuple):
+    """The rows of the accepted lines of a recording, the run over it, and what lines carry."""
+
+    rows: bytes
+    run: Run
+    carried: list
+
+
 def extract(data):
-    """The rows of the accepted lines of a recording, and the run over it."""
-    run, rows = begin(data), []
+    run, rows, captions = begin(data), [], []
     for line in parts(data[HEADER_BYTES:], line_bytes(run.walk)):
+        walk = run.walk
         run, gives, row = extract_next(run, line, NO_ROW)
         rows += [row] * gives
-    return b"".join(rows), run
+        if not run.number and PACKET_BYTES in line:
+            captions.append(carried(walk, line))
+    return Extracted(b"".join(rows), run, captions)
 
 
 def first_not_taken(data):

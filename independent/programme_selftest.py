@@ -138,7 +138,7 @@ def extracted_rows():
         ),
         ("no header", clean[:3], 0, b"SYSTEM 0\nSTART 0\nLINES 0\nREPAIRS 0\nRESULT 1 0 0\n"),
     ):
-        extracted, run = extract(data)
+        extracted, run, _ = extract(data)
         yield name, (extracted, five_lines(outcome(run))), (BLACK_ROW * rows, five)
 
 

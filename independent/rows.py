@@ -51,12 +51,8 @@ def row_length_refusal(row):
 
 
 def row_refusal(row):
-    """Number and place of a row's refusal: 3, 5, 12 in that order."""
-    return (
-        row_length_refusal(row)
-        or spare_refusal(row)
-        or judge.sample_refusal(samples_of_row(row))
-    )
+    """What refuses a row before its samples are looked at: 3, 5 in that order."""
+    return row_length_refusal(row) or spare_refusal(row)
 
 
 def unpack(row, samples):

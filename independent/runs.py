@@ -7,6 +7,7 @@ from independent import judge
 from independent.edges import SYSTEMS
 from independent.judge import fourth_offsets, line_after
 from independent.material import Source, changed, edge_offsets, inverted
+from independent.packets import header_word
 from independent.recordings import HEADER_BYTES, header, header_of, lines_of, recording
 
 # Ways to hand over an input; a number is the size of pieces handed over one by one.
@@ -15,6 +16,12 @@ PIPE = "pipe"
 
 # Three lines from here hold lines with V = 1 and with V = 0; those of 525 wrap.
 STARTS = {525: 524, 625: 22}
+
+# Words that are refused at places among four packets of two user words, and behind them: no
+# start, no parity, over 1023, a reserved user word, no checksum, a count too high, no fill.
+PACKET_FAULTS = (
+    (0, 1), (3, 0), (4, 1_024), (6, 1_020), (8, 0), (32, header_word(255)), (36, 513),
+)  # fmt: skip
 
 
 class Run(NamedTuple):
@@ -26,9 +33,9 @@ class Run(NamedTuple):
     delivery: Union[str, int]
 
 
-def clean_lines(source, system, start, count):
+def clean_lines(source, system, start, count, written=Source.written):
     lines = [line_after(system, start, steps) for steps in range(count)]
-    return [source.written(system, line) for line in lines]
+    return [written(source, system, line) for line in lines]
 
 
 def three_lines(source, system):
@@ -149,6 +156,37 @@ def foreign_lines(source):
         yield recording(system, start, clean_lines(source, other, start, 3)), PIPE
 
 
+def four_packets(source, system, line):
+    """A clean line with four packets of two user words in each space."""
+    spaces = judge.spaces(judge.due_of(system, line))
+    packets = [word for _ in range(4) for word in source.packet(2)]
+    return source.written(system, line, [packets if start < end else [] for start, end in spaces])
+
+
+def faults_in_packets(source):
+    """Recordings of three lines, one of them with a fault among its packets."""
+    for system in SYSTEMS:
+        start = STARTS[system]
+        lines = clean_lines(source, system, start, 3, four_packets)
+        for n, words in enumerate(lines):
+            due = judge.due_of(system, line_after(system, start, n))
+            for (first, end), (place, word) in product(judge.spaces(due), PACKET_FAULTS):
+                if first < end:
+                    yield recording(system, start, replaced(lines, n, {first + place: word}))
+
+
+def captions(source):
+    """Lines with packets: clean, damaged in their codes, and with a fault among the packets."""
+    for system, _ in product(SYSTEMS, range(6)):
+        start = source.random.choice((STARTS[system], 1, judge.SYSTEMS[system].lines - 1))
+        lines = clean_lines(source, system, start, 5, Source.captioned)
+        whole = recording(system, start, lines)
+        yield whole, FILE
+        yield damaged(source, whole), PIPE
+    for data in faults_in_packets(source):
+        yield data, PIPE
+
+
 def pieces(source):
     """Small inputs byte by byte, larger ones in odd pieces."""
     for system in SYSTEMS:
@@ -172,6 +210,7 @@ FAMILIES = (
     refused_words,
     refused_codes,
     foreign_lines,
+    captions,
     pieces,
 )
 

@@ -5,9 +5,10 @@ Run: python3 -m independent.selftest
 
 import sys
 
-from independent import calls_selftest, command_selftest, judge, programme_selftest
+from independent import calls_selftest, captions_selftest, command_selftest, judge
+from independent import packets_selftest, programme_selftest, wrong_models
 from independent.edges import LISTED_LENGTHS, LISTED_LINES, LISTED_SAMPLES, LISTED_SERIAL
-from independent.judge import CLEAN_REPORT, FRESH_STATE, Report, Walk, fourth_offsets
+from independent.judge import CLEAN_REPORT, FRESH_STATE, NO_READY, Report, Walk, fourth_offsets
 from independent.material import changed
 from independent.protocol import pack_slice
 from independent.recordings import Run, confirm, header, run_on
@@ -25,7 +26,7 @@ def empty_line(system):
 
 
 def written(system, line):
-    return judge.write(system, line, *buffers(), empty_line(system))[2]
+    return judge.write(system, line, *buffers(), *NO_READY, empty_line(system))[2]
 
 
 def in_turn(walk, words, *lent):
@@ -33,7 +34,7 @@ def in_turn(walk, words, *lent):
     number, place, *after = judge.take(walk, words, *lent)
     # "the walk then stands"
     judgement = judge.refused(walk, number, place) if number else judge.judged(walk, words)
-    return (*judgement, *after)
+    return (*judgement[:4], *after)
 
 
 def reading(system, line, words, lines_read=0, repairs=0, lent=9):
@@ -74,7 +75,7 @@ def listed_samples():
         yield f"read {sample}", reading(625, 23, line)[:2], (number, place)
         y, cb, cr = buffers()
         y[2] = sample
-        answer = judge.write(625, 23, y, cb, cr, empty_line(625))[:2]
+        answer = judge.write(625, 23, y, cb, cr, *NO_READY, empty_line(625))[:2]
         yield f"write {sample}", answer, (12, 5) if number else (0, 0)
 
 
@@ -189,7 +190,7 @@ def blank_lines():
     answer = reading(625, 22, line, lent=65535)
     yield "V = 1 keeps buffers", answer[4:], tuple(buffers(65535))
     yield "V = 1 is fill", judge.active_part(625, line), [512, 64] * 720
-    answer = judge.write(625, 22, *buffers(3), empty_line(625))
+    answer = judge.write(625, 22, *buffers(3), *NO_READY, empty_line(625))
     yield "V = 1 looks at no sample", answer, (0, 0, line)
 
 
@@ -274,6 +275,9 @@ GROUPS = (
     *programme_selftest.GROUPS,
     *command_selftest.GROUPS,
     *calls_selftest.GROUPS,
+    *packets_selftest.GROUPS,
+    *captions_selftest.GROUPS,
+    *wrong_models.GROUPS,
 )
 
 

@@ -7,7 +7,7 @@ from independent.call_cases import any_walks, full_pieces
 from independent.calls import Filled, Told
 from independent.edges import ANY_SYSTEMS, EDGE_LINES, EDGE_NUMBERS, EDGE_SUMS
 from independent.edges import HIGHEST, MOSTS, SYSTEMS
-from independent.judge import LINES_LIMIT, Walk
+from independent.judge import LINES_LIMIT, NO_READY, Walk
 from independent.material import chosen_lines
 from independent.protocol import Wide
 from independent.recordings import line_bytes
@@ -85,7 +85,7 @@ def ended_tapes(source):
         size = line_bytes(walk)
         for row in (row_of(source.picture()), source.junk_bytes(ROW_BYTES), b""):
             for room in (size, size - 1, 0):
-                yield protocol.TAPE_NEXT, (tape, row, source.junk_bytes(room))
+                yield protocol.TAPE_NEXT, (tape, row, *NO_READY, source.junk_bytes(room))
 
 
 def tapes_at_the_limit(source):
@@ -97,7 +97,7 @@ def tapes_at_the_limit(source):
             tape = Tape(Walk(system, line, lines_read, 0), most, *judge.ACCEPTED)
             yield from asked(tape)
             row, room = row_of(source.picture()), line_bytes(tape.walk)
-            yield protocol.TAPE_NEXT, (tape, row, source.junk_bytes(room))
+            yield protocol.TAPE_NEXT, (tape, row, *NO_READY, source.junk_bytes(room))
 
 
 def rows_on_tapes(source):
@@ -109,7 +109,7 @@ def rows_on_tapes(source):
             yield from asked(tape)
             tape = turned(tape) if turns(tape) else tape
             row, room = row_of(source.picture()), line_bytes(tape.walk)
-            offered = tape, row, source.junk_bytes(room)
+            offered = tape, row, *NO_READY, source.junk_bytes(room)
             yield protocol.TAPE_NEXT, offered
             tape = tape_next(*offered)[0]
 

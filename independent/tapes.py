@@ -11,6 +11,7 @@ from independent.judge import (
     CLEAN_REPORT,
     LINES_LIMIT,
     Judgement,
+    PacketWords,
     Walk,
     refused,
     system_of,
@@ -32,27 +33,31 @@ def takes_row(walk):
     return 1 - due_written(walk).v
 
 
-def record_refusal(walk, row, line):
-    # "Refused are 1, 2, 4, 3 at 0 for the line's bytes, and of a row that is due
-    # 3 at 1 for its length, 5 at its first word with a spare bit set, 12 at its
-    # first sample outside 4 to 1019."
-    refusal = judge.walk_refusal(walk) or judge.bytes_refusal(walk.system, line)
-    return refusal or (row_refusal(row) if takes_row(walk) else None)
-
-
-def recorded_line(walk, row):
+def row_part(walk, row):
     # "a V = 0 line of the row's samples, a V = 1 line as fill, whatever the row"
-    part = samples_of_row(row) if takes_row(walk) else ()
-    return judge.bytes_of(judge.line_of(due_written(walk), part))
+    return samples_of_row(row) if takes_row(walk) else ()
 
 
-def record(walk, row, line):
+def record_refusal(walk, row, between, active, line):
+    # "Refused are 1, 2, 4, 3 at 0 for the line's bytes, and of a row that is due
+    # 3 at 1 for its length, 5 at its first word with a spare bit set"; then what the
+    # writer refuses: ready packet words, and "12 at its first sample outside 4 to 1019".
+    refusal = judge.walk_refusal(walk) or judge.bytes_refusal(walk.system, line)
+    refusal = refusal or (row_refusal(row) if takes_row(walk) else None)
+    if refusal:
+        return refusal
+    return judge.written_refusal(due_written(walk), row_part(walk, row), between, active)
+
+
+def record(walk, row, between, active, line):
     # "A refusal leaves the line's bytes as they were."
-    refusal = record_refusal(walk, row, line)
+    refusal = record_refusal(walk, row, between, active, line)
     if refusal:
         return (*refused(walk, *refusal), line)
-    judgement = judge.accepted(walk, due_written(walk), CLEAN_REPORT)
-    return (*judgement, recorded_line(walk, row))
+    due, packets = due_written(walk), PacketWords(len(between), len(active))
+    judgement = judge.accepted(walk, due, CLEAN_REPORT, packets)
+    words = judge.line_of(due, row_part(walk, row), between, active)
+    return (*judgement, judge.bytes_of(words))
 
 
 def holds_row(walk, data):
@@ -135,11 +140,11 @@ def turned(tape):
     return tape._replace(walk=judge.fresh(tape.walk.system, tape.walk.line)[2])
 
 
-def tape_next(tape, row, line):
+def tape_next(tape, row, between, active, line):
     # "recorded as `record` does. A tape that was refused stays as it is."
     if tape.number:
         return tape, line
-    number, place, _, walk, line = record(tape.walk, row, line)
+    number, place, _, walk, _, line = record(tape.walk, row, between, active, line)
     return Tape(walk, tape.most, number, place), line
 
 

@@ -10,23 +10,26 @@ use Rattle.refusal.specs.Answer.{none}
 use Rattle.refusal.proofs.Firsts.{first-none, same-number}
 use Rattle.words.specs.Bytes.{wordOfBytes, wordsOf}
 use Rattle.words.proofs.Bytes.{words-length, word-at}
+use Rattle.packets.specs.Fault.{wordAt}
 use Rattle.timing.specs.declared.Report.{Report}
 use Rattle.timing.specs.Report.{codeReportOf}
 use Rattle.system.specs.declared.System.{System}
 use Rattle.system.specs.declared.due.Due.{Due}
 use Rattle.system.specs.declared.walk.Walk.{Walk}
+use Rattle.system.specs.declared.walk.PacketWords.{PacketWords}
 use Rattle.system.specs.Figures.{savOffset, lineLength, systemOf}
 use Rattle.system.specs.Due.{dueOf}
 use Rattle.system.specs.Walk.{walkRefusal, standingRefusal, lineBytes, dueBy, dueIn}
 use Rattle.system.specs.Judgement.{refusedAt, movedAt}
 use Rattle.system.proofs.Laws.{line-is-parts, due-system, standing-walk, standing-length, accepted-stood}
-use Rattle.line.specs.Fault.{faultAt, wordRefusal}
+use Rattle.line.specs.Fault.{faultAt, wordRefusal, countsOf}
 use Rattle.line.specs.Parts.{Proper}
 use Rattle.reader.specs.Judge.{reportOf}
 use Rattle.reader.proofs.Judged.{line-standing, line-words, judged-refused, judged-moved}
 use Rattle.bytewise.specs.declared.pass.Codes.{Codes}
 use Rattle.bytewise.specs.Bytes.{judgedBytes}
-use Rattle.bytewise.specs.Passes.{LineBytes, Corrected, LineWell}
+use Rattle.bytewise.specs.Passes.{LineBytes, Corrected, lineWord, LineWell}
+use Rattle.bytewise.proofs.Parts.{same-faults, same-packets}
 
 -- fill is of ten bits at every walk
 proper : (w : Walk) (fourth : ℕ) → Proper (dueBy w fourth .fill)
@@ -82,14 +85,22 @@ module _ (w : Walk) (bytes : List ℕ) where
 
       -- the fast pass found the line well
       module _ (codes : Codes) where
-        no-fault : LineWell d bytes → wordRefusal (dueIn w (wordsOf bytes)) (wordsOf bytes) ≡ none
-        unfolding wordRefusal faultAt
-        no-fault well =
-            let size = line-bytes .size in
+        -- its words are those of its bytes
+        told-words : (j : ℕ) → j < lineLength (d .system) → wordAt (wordsOf bytes) j ≡ lineWord bytes j
+        told-words j l = word-at bytes _ (line-bytes .size) j l
+
+        no-fault : (packets : PacketWords) → LineWell d bytes packets → wordRefusal (dueIn w (wordsOf bytes)) (wordsOf bytes) ≡ none
+        unfolding wordRefusal
+        no-fault packets found =
             rw (← in-line)
             (first-none (faultAt d (wordsOf bytes)) (length (wordsOf bytes)) (λ j l.
-            let m : j < lineLength (d .system) = omega (arith, words-length bytes _ size) in
-            rw (word-at bytes _ size j m) (well j m)))
+            let m : j < lineLength (d .system) = omega (arith, words-length bytes _ (line-bytes .size)) in
+            same-faults d (wordAt (wordsOf bytes)) (lineWord bytes) told-words j m ∙ found .well j m))
+
+        counted : (packets : PacketWords) → LineWell d bytes packets → packets ≡ countsOf (dueIn w (wordsOf bytes)) (wordsOf bytes)
+        counted packets found =
+            found .counted ∙ sym (same-packets d (wordAt (wordsOf bytes)) (lineWord bytes) told-words)
+            ∙ ap (λ (x : Due). countsOf x (wordsOf bytes)) in-line
 
         reported : Corrected d bytes codes
             → record { eav = codeReportOf (codes .eav); sav = codeReportOf (codes .sav) } ≡ reportOf (dueIn w (wordsOf bytes)) (wordsOf bytes)
@@ -101,9 +112,9 @@ module _ (w : Walk) (bytes : List ℕ) where
             let e : 2 * (s + 3) ≡ 2 * s + 6 = omega arith in
             rw (← in-line, word-at bytes _ size 3 (omega arith), word-at bytes _ size (s + 3) (omega arith), e, told .eav, told .sav)
 
-        pub judged-well : (report : Report) → report ≡ record { eav = codeReportOf (codes .eav); sav = codeReportOf (codes .sav) }
-            → Corrected d bytes codes → LineWell d bytes → judgedBytes w bytes ≡ movedAt w d report
-        judged-well report e told well =
+        pub judged-well : (report : Report) (packets : PacketWords) → report ≡ record { eav = codeReportOf (codes .eav); sav = codeReportOf (codes .sav) }
+            → Corrected d bytes codes → LineWell d bytes packets → judgedBytes w bytes ≡ movedAt w d report packets
+        judged-well report packets e told found =
             judged-moved (length bytes) (lineBytes w) w (wordsOf bytes)
-            (same-number (line-words (length bytes) (lineBytes w) w (wordsOf bytes) stands ∙ no-fault well))
-            ∙ rw (e ∙ reported told, in-line)
+            (same-number (line-words (length bytes) (lineBytes w) w (wordsOf bytes) stands ∙ no-fault packets found))
+            ∙ rw (e ∙ reported told, counted packets found, in-line)

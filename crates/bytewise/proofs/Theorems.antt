@@ -14,6 +14,7 @@ use Rattle.system.specs.declared.walk.Walk.{Walk}
 use Rattle.system.specs.declared.walk.Judgement.{Judgement}
 use Rattle.system.specs.Walk.{lineBytes, dueIn}
 use Rattle.system.specs.Judgement.{refusedAt, acceptedAt}
+use Rattle.line.specs.Fault.{countsOf}
 use Rattle.reader.specs.Judge.{lineRefusal, reportOf, lineJudged, judgeRefusal, judgedOf}
 use Rattle.reader.proofs.Judged.{line-exact, line-decides, judged-as-refused, judged-refused, judged-accepted}
 use Rattle.bytewise.specs.Bytes.{bytesRefusal, judgedBytes}
@@ -47,12 +48,14 @@ module _ (w : Walk) (bytes : List ℕ) where
   pub bytes-decide : Decides (bytesRefusals w bytes)
   bytes-decide = line-decides (length bytes) (lineBytes w) w (wordsOf bytes)
 
-  -- ---- A refused line leaves the walk standing and is told as clean; an accepted one advances it by its report.
+  -- ---- A refused line leaves the walk standing and is told as clean and without packets; an accepted one advances it by its report, and the
+  -- words of each space that are packets are told.
   pub bytes-refused-stands : (bytesRefusal w bytes .number ≡ 0 → ⊥) → judgedBytes w bytes ≡ refusedAt w (bytesRefusal w bytes)
   bytes-refused-stands n = judged-refused (length bytes) (lineBytes w) w (wordsOf bytes) _ refl n
 
   pub bytes-accepted-advances : bytesRefusal w bytes .number ≡ 0
-      → judgedBytes w bytes ≡ acceptedAt w (dueIn w (wordsOf bytes)) (reportOf (dueIn w (wordsOf bytes)) (wordsOf bytes))
+      → judgedBytes w bytes
+      ≡ acceptedAt w (dueIn w (wordsOf bytes)) (reportOf (dueIn w (wordsOf bytes)) (wordsOf bytes)) (countsOf (dueIn w (wordsOf bytes)) (wordsOf bytes))
   bytes-accepted-advances e = judged-accepted (length bytes) (lineBytes w) w (wordsOf bytes) e
 
   -- ---- Two results allowed for one input are the same.

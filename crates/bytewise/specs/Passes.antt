@@ -9,9 +9,9 @@ use Rattle.words.specs.Bytes.{wordOfBytes}
 use Rattle.timing.specs.Code.{correctionOf}
 use Rattle.system.specs.declared.due.Due.{Due}
 use Rattle.system.specs.Figures.{lineLength, savOffset}
-use Rattle.line.specs.Offsets.{dueAt}
-use Rattle.line.specs.Fault.{faultWhere}
-use Rattle.line.specs.Parts.{Proper}
+use Rattle.system.specs.declared.walk.PacketWords.{PacketWords}
+use Rattle.line.specs.Fault.{faultOf, packetsIn}
+use Rattle.line.specs.Parts.{Proper, ActiveWell}
 use Rattle.bytewise.specs.declared.pass.Codes.{Codes}
 
 -- the bytes are as many as those of a line, and the fill that is due is of ten bits
@@ -29,6 +29,16 @@ pub record Corrected (due : Due) (bytes : List ℕ) (codes : Codes) : Type 0 whe
   pub eav : codes .eav ≡ correctionOf (wordOfBytes bytes 6)
   pub sav : codes .sav ≡ correctionOf (wordOfBytes bytes (2 * savOffset (due .system) + 6))
 
--- a line has no fault
-abbrev pub LineWell : Due → List ℕ → Type 0
-LineWell due bytes = (k : ℕ) → k < lineLength (due .system) → faultWhere (dueAt due k) (wordOfBytes bytes (2 * k)) ≡ 0
+-- the word of a line at an offset
+abbrev pub lineWord : List ℕ → ℕ → ℕ
+lineWord bytes i = wordOfBytes bytes (2 * i)
+
+-- the active part has no packets and no fault: fill where V is 1, and samples where it is 0
+pub record PlainActive (due : Due) (word : ℕ → ℕ) : Type 0 where
+  pub well : ActiveWell due word
+  pub counted : packetsIn due word .active ≡ 0
+
+-- a line has no fault, and so many words of its spaces are packets
+pub record LineWell (due : Due) (bytes : List ℕ) (packets : PacketWords) : Type 0 where
+  pub well : (k : ℕ) → k < lineLength (due .system) → faultOf due (lineWord bytes) k ≡ 0
+  pub counted : packets ≡ packetsIn due (lineWord bytes)

@@ -44,8 +44,10 @@ pub fn judge(walk: Walk, bytes: &[u8]) -> Judgement
     }
     let due = walk.due(words::word_of(bytes[6], bytes[7]));
     let codes = Codes::of(due, bytes);
-    if all_well(due, bytes, codes) {
-        return Judgement::accepted(walk, due, codes.report());
+    let pass = all_well(due, bytes, codes);
+    if pass.well {
+        let packets = pass.packets;
+        return Judgement::accepted(walk, due, codes.report(), packets);
     }
     judge_words(walk, bytes, walk.line_words())
 }

@@ -5,17 +5,23 @@ ghost use Prim.Native.Nat.{_+_, _-_, _*_, _/_, _≤_};
 ghost use lib.ListN.{length};
 ghost use Rattle.timing.specs.Code.{correctionOf};
 ghost use Rattle.timing.specs.Report.{numberWhere, codeReportOf};
-ghost use Rattle.system.specs.Figures.{lineLength, savOffset};
-ghost use Rattle.line.specs.Fault.{leastSample, mostSample};
+ghost use Rattle.system.specs.Figures.{lineLength, savOffset, activeOffset};
+ghost use Rattle.line.specs.Fault.{betweenSpace};
+ghost use Rattle.words.specs.Words.{leastSample, mostSample};
 ghost use Rattle.line.specs.Samples.{activeLength};
 ghost use Rattle.words.specs.Bytes.{wordOfBytes};
-ghost use Rattle.line.specs.Parts.{Sampled, Filled, ActiveWell, CodeWell};
-ghost use Rattle.bytewise.specs.Passes.{LineBytes, SampleKey, Corrected, LineWell};
+ghost use Rattle.line.specs.Parts.{CodeWell};
+ghost use Rattle.words.specs.Passes.{Sampled, Filled};
+ghost use Rattle.bytewise.specs.Passes.{LineBytes, SampleKey, Corrected, lineWord, PlainActive, LineWell};
 use line::ACTIVE_LENGTH;
+use line::BETWEEN_OFFSET;
 use line::LEAST_ONES;
 use line::MOST_ZEROS;
+use packets::Space;
+use packets::judge_space;
 use std::num::wrapping_add_u16;
 use system::Due;
+use system::PacketWords;
 use system::System;
 use system::System525;
 use system::System625;
@@ -94,8 +100,14 @@ fn all_fill(bytes: &[u8], from: usize, pairs: usize, even: u16, odd: u16) -> boo
     good
 }
 
+// What the pass found: whether all is well, and then how many words are packets.
+pub(crate) struct Pass {
+    pub well: bool,
+    pub packets: PacketWords,
+}
+
 // True only where the space between EAV and SAV is fill. Each system has its own call, so that the compiler knows the length.
-fn space_well(system: System, bytes: &[u8], even: u16, odd: u16) -> bool
+fn space_filled(system: System, bytes: &[u8], even: u16, odd: u16) -> bool
     requires { ⌜ length (now bytes) ≡ 2 * lineLength system ⌝ }
     ensures { λ r. ⌜ (r ≡ true → Filled even odd (λ k. wordOfBytes (now (bytes .entry)) (8 + 2 * k)) ((savOffset system - 4) / 2)) ⌝ }
 {
@@ -103,6 +115,41 @@ fn space_well(system: System, bytes: &[u8], even: u16, odd: u16) -> bool
         System::Lines525 => all_fill(bytes, 8, (System525::SAV_OFFSET - 4) / 2, even, odd),
         System::Lines625 => all_fill(bytes, 8, (System625::SAV_OFFSET - 4) / 2, even, odd),
     }
+}
+
+// Judges the space between by its words, copied with those of EAV into room that holds at least as many.
+fn space_in(due: Due, bytes: &[u8], room: &mut [u16]) -> Space
+    requires { ⌜ (length (now bytes) ≡ 2 * lineLength (due .system)) × (savOffset (due .system) ≤ length (now room)) ⌝ }
+    ensures { λ r. ⌜ r ≡ betweenSpace due (lineWord (now (bytes .entry))) ⌝ }
+{
+    let system = due.system;
+    let sav = system.sav_offset();
+    let end = 2 * sav;
+    words::to_words(&bytes[0..end], &mut room[0..sav]);
+    judge_space(
+        &room[0..sav],
+        BETWEEN_OFFSET,
+        sav,
+        due.fill.even,
+        due.fill.odd,
+    )
+}
+
+// Judges the space between: quickly where it is all fill, and otherwise by its words.
+fn between_space(due: Due, bytes: &[u8]) -> Space
+    requires { ⌜ LineBytes due (now bytes) ⌝ }
+    ensures { λ r. ⌜ r ≡ betweenSpace due (lineWord (now (bytes .entry))) ⌝ }
+{
+    let system = due.system;
+    if space_filled(system, bytes, due.fill.even, due.fill.odd) {
+        return Space {
+            number: 0,
+            place: 0,
+            packets: 0,
+        };
+    }
+    let mut room = [0u16; System625::SAV_OFFSET];
+    space_in(due, bytes, &mut room)
 }
 
 // True only where correction finds the F, V, H that are due.
@@ -171,10 +218,10 @@ impl Codes {
     }
 }
 
-// True only where the active part stands at a byte offset: fill where V is 1, and samples where it is 0.
+// True only where the active part stands at a byte offset: fill alone where V is 1, and samples where it is 0.
 fn active_well(due: Due, bytes: &[u8], from: usize) -> bool
-    requires { ⌜ from + 2 * activeLength ≤ length (now bytes) ⌝ }
-    ensures { λ r. ⌜ (r ≡ true → ActiveWell due (λ k. wordOfBytes (now (bytes .entry)) (from + 2 * k))) ⌝ }
+    requires { ⌜ LineBytes due (now bytes) × (from ≡ 2 * activeOffset (due .system)) ⌝ }
+    ensures { λ r. ⌜ (r ≡ true → PlainActive due (lineWord (now (bytes .entry)))) ⌝ }
 {
     if due.v {
         return all_fill(bytes, from, ACTIVE_LENGTH / 2, due.fill.even, due.fill.odd);
@@ -182,23 +229,34 @@ fn active_well(due: Due, bytes: &[u8], from: usize) -> bool
     all_samples(bytes, from)
 }
 
-// True only of a line with no fault anywhere.
-pub(crate) fn all_well(due: Due, bytes: &[u8], codes: Codes) -> bool
+// Well only of a line with no fault anywhere. An active part with packets is left to the judge of words.
+pub(crate) fn all_well(due: Due, bytes: &[u8], codes: Codes) -> Pass
     requires { ⌜ LineBytes due (now bytes) × Corrected due (now bytes) codes ⌝ }
-    ensures { λ r. ⌜ (r ≡ true → LineWell due (now (bytes .entry))) ⌝ }
+    ensures { λ r. ⌜ (r .well ≡ true → LineWell due (now (bytes .entry)) (r .packets)) ⌝ }
 {
+    let nothing = Pass {
+        well: false,
+        packets: PacketWords::NONE,
+    };
     let system = due.system;
     let sav = 2 * system.sav_offset();
     let eav_code = codes.eav;
     let sav_code = codes.sav;
     if !code_well(bytes, 0, eav_code, due.flags(true)) {
-        return false;
+        return nothing;
     }
-    if !space_well(system, bytes, due.fill.even, due.fill.odd) {
-        return false;
+    let space = between_space(due, bytes);
+    if space.number != 0 {
+        return nothing;
     }
     if !code_well(bytes, sav, sav_code, due.flags(false)) {
-        return false;
+        return nothing;
     }
-    active_well(due, bytes, sav + 8)
+    Pass {
+        well: active_well(due, bytes, sav + 8),
+        packets: PacketWords {
+            between: space.packets,
+            active: 0,
+        },
+    }
 }

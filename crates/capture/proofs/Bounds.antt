@@ -5,16 +5,18 @@ use mathlib.Core.List.{List}
 use mathlib.Core.Bool.{Bool, true, false, not, _||_}
 use native.Mathlib.Omega.{arith}
 use lib.Dec.{ltb, leb, eqb}
-use lib.ListN.{length, getD}
+use lib.ListN.{length}
 use borrow.Author.Tests.{eqb-true, eqb-false}
 use Rattle.refusal.specs.declared.Refusal.{Refusal}
 use Rattle.refusal.specs.Numbers.{numberBound, noSystem, noLine, wrongLength, badCounts, overTen, noCode, notDue, noFill, reserved}
 use Rattle.refusal.specs.Answer.{none, refuse, orElse, firstFrom}
 use Rattle.refusal.proofs.Cases.{by-cond, by-test}
 use Rattle.refusal.proofs.Firsts.{Found, nowhere, at, found, first-none, first-at}
-use Rattle.words.specs.Words.{mostWord}
+use Rattle.words.specs.Words.{mostWord, leastSample, mostSample}
 use Rattle.words.specs.Bytes.{wordsOf}
 use Rattle.words.proofs.Bytes.{words-length}
+use Rattle.packets.specs.Fault.{wordAt}
+use Rattle.packets.proofs.Bounds.{fault-low as space-fault-low}
 use Rattle.timing.specs.declared.Correction.{Correction}
 use Rattle.timing.specs.declared.Correction.the-variants.{Clean, Repaired, Refused}
 use Rattle.timing.specs.declared.Report.{Report}
@@ -29,7 +31,8 @@ use Rattle.system.proofs.Laws.{longest, at-most-two, accepted-stood}
 use Rattle.line.specs.declared.What.{What}
 use Rattle.line.specs.declared.What.the-variants.{Ones, Zeros, Fourth, Fill, Sample}
 use Rattle.line.specs.Offsets.{dueAt}
-use Rattle.line.specs.Fault.{leastSample, mostSample, leastOnes, mostZeros, wrongWhere, faultWhere, faultAt, wordRefusal}
+use Rattle.line.specs.Fault.{leastOnes, mostZeros, wrongWhere, faultWhere, faultWanted, faultOf, faultAt, wordRefusal}
+use Rattle.line.proofs.Spaces.{by-wanted}
 use Rattle.reader.proofs.Judged.{line-standing, line-words}
 use Rattle.bytewise.specs.Bytes.{bytesRefusal}
 
@@ -63,11 +66,15 @@ wrong-low (Fourth fvh) w = number-where-low fvh (correctionOf w) (bounded w)
 wrong-low (Fill word) w = by-cond (λ n. n < numberBound) (eqb w word) 0 noFill (λ e. omega arith) (λ e. omega arith)
 wrong-low Sample w = by-cond (λ n. n < numberBound) (ltb w leastSample || ltb mostSample w) reserved 0 (λ e. omega arith) (λ e. omega arith)
 
+where-low : (due : What) (w : ℕ) → faultWhere due w < numberBound
+unfolding faultWhere
+where-low due w = by-cond (λ n. n < numberBound) (ltb mostWord w) overTen (wrongWhere due w) (λ e. omega arith) (λ e. wrong-low due w)
+
 fault-low : (d : Due) (words : List ℕ) (i : ℕ) → faultAt d words i < numberBound
-unfolding faultAt faultWhere
+unfolding faultOf
 fault-low d words i =
-    let w : ℕ = getD words i 0 in
-    by-cond (λ n. n < numberBound) (ltb mostWord w) overTen (wrongWhere (dueAt d i) w) (λ e. omega arith) (λ e. wrong-low (dueAt d i) w)
+    by-wanted d (wordAt words) (λ wanted. faultWanted wanted (wordAt words i) < numberBound) i
+    (λ due. omega (arith, space-fault-low due (wordAt words i))) (λ outside. where-low (dueAt d i) (wordAt words i))
 
 small-words : (d : Due) (words : List ℕ) → length words < 65536 → Small (wordRefusal d words)
 unfolding wordRefusal

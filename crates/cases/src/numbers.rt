@@ -1,11 +1,12 @@
 // The numbers of an answer, by value: a call that hands on one number costs far less to prove than one that is lent the answer.
 use refusal::Refusal;
 use system::Judgement;
+use system::PacketWords;
 use system::Walk;
 use timing::CodeReport;
 use timing::Report;
 
-// The most numbers of an answer: six of 64 bits.
+// The most numbers of an answer: six of 64 bits, or those of a judgement.
 pub(crate) const MOST_NUMBERS: usize = 12;
 
 // So many numbers, the first of the list. More than the list has room for are no answer.
@@ -91,10 +92,15 @@ impl Numbers {
         self.with_code_report(eav).with_code_report(sav)
     }
 
+    fn with_packets(self, packets: PacketWords) -> Numbers {
+        self.with_place(packets.between).with_place(packets.active)
+    }
+
     pub fn of_judgement(judgement: Judgement) -> Numbers {
         Numbers::one(judgement.number)
             .with_place(judgement.place)
             .with_report(judgement.report)
             .with_walk(judgement.walk)
+            .with_packets(judgement.packets)
     }
 }

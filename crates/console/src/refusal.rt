@@ -24,8 +24,11 @@ fn say_words(number: u32) -> bool {
         10 => io::write_all(STDERR_FILENO, b"fill is due and is not there\n"),
         11 => io::write_all(
             STDERR_FILENO,
-            b"a reserved word stands where a sample is due\n",
+            b"a reserved word stands where a sample or a user word is due\n",
         ),
+        15 => io::write_all(STDERR_FILENO, b"a header word of a packet has bad parity\n"),
+        16 => io::write_all(STDERR_FILENO, b"a packet's checksum is wrong\n"),
+        17 => io::write_all(STDERR_FILENO, b"a packet runs past its space\n"),
         _ => io::write_all(STDERR_FILENO, b"no reading gives this number\n"),
     }
 }

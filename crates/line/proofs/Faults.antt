@@ -5,13 +5,15 @@ use mathlib.Core.Bool.{Bool, true, false, cond, _||_}
 use native.Mathlib.Omega.{arith}
 use lib.Dec.{ltb, eqb}
 use borrow.Author.Tests.{le-ltb, ltb-true, ltb-false, eq-eqb, eqb-true}
-use Rattle.refusal.proofs.Cases.{by-test, or-neither}
+use Rattle.refusal.proofs.Cases.{by-test}
+use Rattle.words.proofs.Passes.{not-reserved}
 use Rattle.timing.specs.Code.{correctionOf}
 use Rattle.timing.specs.Report.{numberWhere}
 use Rattle.timing.proofs.Laws.{over-is-5}
+use Rattle.words.specs.Words.{leastSample, mostSample}
 use Rattle.line.specs.declared.What.{What}
 use Rattle.line.specs.declared.What.the-variants.{Ones, Zeros, Fourth, Fill, Sample}
-use Rattle.line.specs.Fault.{leastSample, mostSample, wrongWhere, faultWhere}
+use Rattle.line.specs.Fault.{wrongWhere, faultWhere}
 
 -- ---- no fault
 pub ones-well : (w : ℕ) → 1020 ≤ w → w ≤ 1023 → faultWhere Ones w ≡ 0
@@ -68,12 +70,6 @@ fill-told word w e =
   where
     never : _≡_ {A = ℕ} 10 0 → ⊥
     never q = omega arith
-
--- a word that is not reserved is a sample
-pub not-reserved : (w : ℕ) → (ltb w leastSample || ltb mostSample w) ≡ false → (leastSample ≤ w) × (w ≤ mostSample)
-not-reserved w e =
-    let both = or-neither (ltb w leastSample) (ltb mostSample w) e in
-    (ltb-false _ _ (both .0), ltb-false _ _ (both .1))
 
 pub sample-told : (w : ℕ) → faultWhere Sample w ≡ 0 → (leastSample ≤ w) × (w ≤ mostSample)
 sample-told w e =

@@ -1,9 +1,10 @@
 pub mod Dues
 pub mod Faults
 pub mod Lengths
-pub mod Passes
+pub mod Spaces
 pub mod Parts
 pub mod Places
+pub mod Writing
+pub mod Theorems
 pub mod Damaged
 pub mod Images
-pub mod Theorems

@@ -1,9 +1,6 @@
 // What a line consists of: what is due at each of its offsets. Reader and writer share it.
 ghost use mathlib.Core.Path.{_≡_};
-ghost use mathlib.Core.Bool.{_||_};
-ghost use lib.Dec.{ltb};
 ghost use Rattle.line.specs.Offsets.{codeAt, fillAt, dueAt};
-ghost use Rattle.line.specs.Fault.{leastSample, mostSample};
 ghost use Rattle.line.specs.Lengths.{bufferRefusal};
 use refusal::Number;
 use refusal::Refusal;
@@ -13,10 +10,8 @@ use system::FillWords;
 // The samples of an active part: CB, Y, CR, Y repeated.
 pub const ACTIVE_LENGTH: usize = 1440;
 
-// A sample is 4 to 1019.
-pub const LEAST_SAMPLE: u16 = 4;
-
-pub const MOST_SAMPLE: u16 = 1019;
+// Where the space between EAV and SAV starts: after the four words of EAV.
+pub const BETWEEN_OFFSET: usize = 4;
 
 // The first word of a timing code is 1023, and 1020 to 1023 count as it; the second and third are 0, and 0 to 3 count as them.
 pub const LEAST_ONES: u16 = 1020;
@@ -43,13 +38,6 @@ fn code_at(fvh: u32, k: usize) -> What
         return What::Zeros;
     }
     What::Fourth { fvh }
-}
-
-// Whether a word is none of the samples 4 to 1019.
-pub fn reserved(word: u16) -> bool
-    ensures { λ r. ⌜ r ≡ (ltb word leastSample || ltb mostSample word) ⌝ }
-{
-    (word < LEAST_SAMPLE) | (MOST_SAMPLE < word)
 }
 
 fn fill_at(fill: FillWords, offset: usize) -> What

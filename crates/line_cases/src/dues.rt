@@ -113,7 +113,7 @@ pub(crate) fn answered(kind: u32, payload: &[u8]) -> Numbers {
         31 => flags(payload),
         32 => at(payload),
         33 => buffer_refusal(payload),
-        35 => Numbers::none().with_truth(line::reserved(low_word(number(payload, 0)))),
+        35 => Numbers::none().with_truth(words::reserved(low_word(number(payload, 0)))),
         _ => Numbers::none(),
     }
 }

@@ -1,4 +1,4 @@
-// The crate reader: judging a line, and its active part; judging as C calls it; and the search for a word over 1023.
+// The crate reader: judging a line, its active part and its packets; judging as C calls it; and the search for a word over 1023.
 use cases::MOST_BYTES;
 use cases::MOST_WORDS;
 use cases::Numbers;
@@ -11,8 +11,17 @@ use cases::taken_words;
 use cases::walk;
 use system::Walk;
 
-fn put_active(answer: &mut [u8], walk: Walk, words: &mut [u16]) -> usize {
-    let part = reader::active(walk, words);
+// reader::active, reader::between_packets, or reader::active_packets.
+fn lent(kind: u32, walk: Walk, words: &[u16]) -> &[u16] {
+    match kind {
+        4 => reader::active(walk, words),
+        45 => reader::between_packets(walk, words),
+        _ => reader::active_packets(walk, words),
+    }
+}
+
+fn put_lent(answer: &mut [u8], kind: u32, walk: Walk, words: &mut [u16]) -> usize {
+    let part = lent(kind, walk, words);
     let at_part = put_numbers(answer, Numbers::none().with_place(part.len()));
     put_words(answer, at_part, part)
 }
@@ -43,14 +52,15 @@ pub(crate) fn judge(payload: &[u8]) -> Numbers {
     judged(walk(payload, 0), taken_words(payload, 16, 20, &mut words))
 }
 
-// reader::active.
-pub(crate) fn active(payload: &[u8], answer: &mut [u8]) -> usize {
+// A part of a line, by its kind.
+pub(crate) fn lend(kind: u32, payload: &[u8], answer: &mut [u8]) -> usize {
     let mut words = [0u16; MOST_WORDS];
     if after_words(payload, MOST_WORDS, 16, 20) != payload.len() {
         return 0;
     }
-    put_active(
+    put_lent(
         answer,
+        kind,
         walk(payload, 0),
         taken_words(payload, 16, 20, &mut words),
     )

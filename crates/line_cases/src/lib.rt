@@ -1,12 +1,16 @@
-// Cases of the calls on words: timing codes, systems and walks, what is due in a line, judging, taking, writing, the serial form, and C's two calls.
+// Cases of the calls on words: timing codes, systems and walks, what is due in a line, packets, judging, taking, writing, the serial form, and C's
+// two calls.
 mod coding;
 mod correction;
 mod dues;
 mod joining;
 mod judging;
 mod lines;
+mod slices;
+mod spaces;
 mod systems;
 mod walks;
+mod writing;
 
 use cases::Numbers;
 use cases::number;
@@ -23,7 +27,8 @@ fn size_of(kind: u32) -> usize {
         31 | 33 | 40 => 24,
         32 => 28,
         29 => 32,
-        27 | 41 => 52,
+        27 => 52,
+        41 => 60,
         _ => 4,
     }
 }
@@ -51,6 +56,7 @@ fn answered(kind: u32, payload: &[u8]) -> Numbers {
         37 => judging::first_over(payload),
         42 => judging::judge(payload),
         50 => coding::fresh(payload),
+        51 => spaces::judge(payload),
         _ => on_numbers(kind, payload),
     }
 }
@@ -59,11 +65,11 @@ fn answered(kind: u32, payload: &[u8]) -> Numbers {
 pub fn answer_case(kind: u32, payload: &[u8], answer: &mut [u8]) -> usize {
     match kind {
         3 => lines::with_four(kind, 16, payload, answer),
-        4 => judging::active(payload, answer),
-        5 => lines::with_four(kind, 8, payload, answer),
+        4 | 45 | 46 => judging::lend(kind, payload, answer),
+        5 => writing::with_six(kind, 8, payload, answer),
         6 | 7 => coding::code(kind == 7, payload, answer),
-        43 => lines::with_four(kind, 20, payload, answer),
-        44 => lines::with_part(payload, answer),
+        43 => writing::with_six(kind, 20, payload, answer),
+        44 => lines::with_four(kind, 20, payload, answer),
         _ => put_numbers(answer, answered(kind, payload)),
     }
 }

@@ -8,6 +8,7 @@ use cases::number;
 use cases::report;
 use refusal::Refusal;
 use system::Judgement;
+use system::PacketWords;
 use system::Walk;
 
 // The refusal behind a walk.
@@ -38,9 +39,19 @@ fn refused(walk: Walk, payload: &[u8]) -> Numbers {
     Numbers::of_judgement(Judgement::refused(walk, refusal(payload)))
 }
 
+// The words of packets behind a walk, what is due and a report.
+fn packets(payload: &[u8]) -> PacketWords {
+    PacketWords {
+        between: count(payload, 52),
+        active: count(payload, 56),
+    }
+}
+
 // Judgement::accepted.
 fn accepted(walk: Walk, payload: &[u8]) -> Numbers {
-    Numbers::of_judgement(Judgement::accepted(walk, due_behind(payload), report(payload, 36)))
+    let due = due_behind(payload);
+    let judgement = Judgement::accepted(walk, due, report(payload, 36), packets(payload));
+    Numbers::of_judgement(judgement)
 }
 
 pub(crate) fn answered(kind: u32, walk: Walk, payload: &[u8]) -> Numbers {

@@ -13,6 +13,7 @@ use Rattle.system.specs.declared.walk.Walk.{Walk}
 use Rattle.system.specs.declared.walk.Judgement.{Judgement}
 use Rattle.system.specs.Walk.{dueIn}
 use Rattle.system.specs.Judgement.{refusedAt, acceptedAt}
+use Rattle.line.specs.Fault.{countsOf}
 use Rattle.reader.specs.Judge.{reportOf}
 use Rattle.reader.proofs.Taken.{told, then-taken, then-refused, then-told}
 use Rattle.bytewise.specs.Bytes.{bytesRefusal, judgedBytes}
@@ -53,6 +54,7 @@ module _ (w : Walk) (bytes before : List ℕ) where
   -- An accepted line advances the walk by its report.
   pub extract-accepted-advances : extractRefusal w bytes (length before) .number ≡ 0
       → extractedOf w bytes (length before) ≡ acceptedAt w (dueIn w (wordsOf bytes)) (reportOf (dueIn w (wordsOf bytes)) (wordsOf bytes))
+      (countsOf (dueIn w (wordsOf bytes)) (wordsOf bytes))
   extract-accepted-advances e =
       then-taken w (judgedBytes w bytes) (extractRefusal w bytes (length before)) e
       ∙ bytes-accepted-advances w bytes (orElse-none (bytesRefusal w bytes) (roomRefusal (length before)) e .0)

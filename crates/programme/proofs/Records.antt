@@ -1,9 +1,9 @@
 -- Laws of recording a line: what refuses it, test by test in turn, and what its words and bytes then are. Assumes nothing.
 use Prim.Native.Nat.{ℕ, _*_, _-_, _<_}
 use mathlib.Core.Path.{_≡_, refl, sym, ap, subst, _∙_}
-use mathlib.Core.Bool.{Bool, true, false, not, true≢false, _||_}
+use mathlib.Core.Bool.{Bool, true, false, cond, not, true≢false, _||_}
 use mathlib.Core.List.{List}
-use mathlib.Core.Logic.{_⊎_, inl, inr}
+use mathlib.Core.Logic.{_⊎_, inr}
 use native.Mathlib.Omega.{arith}
 use lib.Dec.{ltb, eqb}
 use lib.ListN.{length}
@@ -17,7 +17,7 @@ use Rattle.refusal.proofs.Firsts.{orElse-accepted, orElse-refused, orElse-group
 use Rattle.refusal.proofs.Tables.{keeps-when, keeps-before, numbers-when, keeps-lowest}
 use Rattle.words.specs.Bytes.{bytesOf, pairsRefusal}
 use Rattle.words.proofs.Bytes.{pairs-accepted}
-use Rattle.words.proofs.Tabs.{length-tab, same-tab}
+use Rattle.words.proofs.Tabs.{same-tab}
 use Rattle.timing.specs.Report.{cleanReport}
 use Rattle.system.specs.declared.due.Due.{Due}
 use Rattle.system.specs.declared.walk.Walk.{Walk}
@@ -26,16 +26,20 @@ use Rattle.system.specs.Due.{dueOf}
 use Rattle.system.specs.Walk.{walkRefusal, lineWords, lineBytes, standingRefusal}
 use Rattle.system.specs.Judgement.{refusedAt, acceptedAt, movedAt}
 use Rattle.system.proofs.Laws.{accepted-good, moved-advanced, judgement-accepted, judgement-refused}
-use Rattle.line.specs.Fault.{leastSample, mostSample}
-use Rattle.line.specs.Samples.{Samples, activeLength, sampleAt, wordWhere, wordAt, lineOf, partSamples}
+use Rattle.words.specs.Words.{leastSample, mostSample}
+use Rattle.line.specs.Fault.{betweenOffset}
+use Rattle.line.specs.Samples.{Samples, Packets, Content, activeLength, sampleAt, wordWhere, laidAt, writtenAt, lineOf, partSamples}
 use Rattle.line.proofs.Dues.{by-due}
-use Rattle.line.proofs.Theorems.{reserved-test}
-use Rattle.writer.specs.Write.{outsideAt, sampleRefusal, partRefusal}
-use Rattle.writer.proofs.Laws.{part-samples}
+use Rattle.line.proofs.Writing.{line-length}
+use Rattle.words.proofs.Passes.{reserved-test}
+use Rattle.writer.specs.Refusals.{packetsRefusals}
+use Rattle.writer.specs.Write.{outsideAt, packetsRefusal, sampleRefusal, partRefusal, partContent}
+use Rattle.writer.proofs.Laws.{part-carried}
+use Rattle.writer.proofs.Theorems.{packets-exact}
 use Rattle.writer.proofs.Places.{samples-blank, samples-picture}
 use Rattle.v210.specs.Row.{rowLength, rowWords, rowWord, mostRowWord, spareAt, unpackedOf, spareRefusal, unpackRefusal}
 use Rattle.v210.proofs.Refusals.{unpack-measured}
-use Rattle.programme.specs.Record.{dueAtWalk, takesRow, rowSamples, unpackedRefusal, rowRefusal, recordRefusal, recordedOf, lineBytesOf, lineBytesAfter}
+use Rattle.programme.specs.Record.{dueAtWalk, takesRow, rowSamples, rowContent, readyCounts, unpackedRefusal, rowRefusal, recordRefusal, recordedOf, lineBytesOf, lineBytesAfter}
 use Rattle.programme.specs.Refusals.{rowRefusals}
 
 -- ---- A line takes a row exactly where its V is 0.
@@ -51,16 +55,18 @@ module _ (w : Walk) where
 -- ---- A line's words.
 
 -- with V = 1 no sample is looked at
-pub blank-any : (d : Due) (p q : Samples) → d .v ≡ true → lineOf d p ≡ lineOf d q
+pub blank-any : (d : Due) (p q : Samples) (k : Packets) → d .v ≡ true
+    → lineOf d (record { samples = p; packets = k }) ≡ lineOf d (record { samples = q; packets = k })
 unfolding lineOf
-blank-any d p q v =
-    same-tab (wordAt d p) (wordAt d q) (lineLength (d .system))
-    (λ i l. by-due d (λ x. wordWhere x (sampleAt p (i - activeOffset (d .system))) ≡ wordWhere x (sampleAt q (i - activeOffset (d .system)))) i
-    refl refl (λ e. refl) (λ e. refl) refl refl (λ f g. absurd (true≢false (sym v ∙ f))))
+blank-any d p q k v =
+    same-tab (writtenAt d (record { samples = p; packets = k })) (writtenAt d (record { samples = q; packets = k })) (lineLength (d .system))
+    (λ i l. ap (λ (u : ℕ). laidAt (k .active) (activeOffset (d .system)) (λ _. laidAt (k .between) betweenOffset (λ _. u) i) i)
+    (by-due d (λ x. wordWhere x (sampleAt p (i - activeOffset (d .system))) ≡ wordWhere x (sampleAt q (i - activeOffset (d .system)))) i
+    refl refl (λ e. refl) (λ e. refl) refl refl (λ f g. absurd (true≢false (sym v ∙ f)))))
 
-pub line-words : (w : Walk) (p : Samples) → length (lineOf (dueAtWalk w) p) ≡ lineWords w
-unfolding lineOf dueOf
-line-words w p = length-tab (wordAt (dueAtWalk w) p) (lineWords w)
+pub line-words : (w : Walk) (c : Content) → length (lineOf (dueAtWalk w) c) ≡ lineWords w
+unfolding dueOf
+line-words w c = line-length (dueAtWalk w) c
 
 -- ---- What refuses a row.
 module _ (row : List ℕ) where
@@ -84,20 +90,24 @@ module _ (row : List ℕ) where
   pub unpack-row : (room : ℕ) → length row ≡ rowLength → room ≡ activeLength → unpackRefusal row room ≡ unpackedRefusal row
   unpack-row room long size = unpack-measured row room long size ∙ sym (unpacked-long long)
 
--- ---- What refuses the row of a line, where nothing refuses the walk and the room.
-module _ (w : Walk) (row : List ℕ) where
-  pub line-blank : takesRow w ≡ false → rowRefusal w row ≡ none
-  unfolding rowRefusal
-  line-blank f = simp f
+-- ---- What refuses what a line is to carry, where nothing refuses the walk and the room.
+module _ (w : Walk) (row : List ℕ) (k : Packets) where
+  -- what the writer refuses
+  abbrev pub carriedRefusal : Refusal
+  carriedRefusal = orElse (packetsRefusal (dueAtWalk w) k) (sampleRefusal (dueAtWalk w) (rowSamples row))
 
-  pub line-picture : takesRow w ≡ true → rowRefusal w row ≡ orElse (unpackedRefusal row) (sampleRefusal (dueAtWalk w) (rowSamples row))
+  pub line-blank : takesRow w ≡ false → rowRefusal w row k ≡ carriedRefusal
   unfolding rowRefusal
-  line-picture t = simp t
+  line-blank f = ap (λ (t : Bool). orElse (cond t (unpackedRefusal row) none) carriedRefusal) f ∙ orElse-accepted none carriedRefusal refl
 
-  pub line-row : takesRow w ≡ true → (unpackedRefusal row .number ≡ 0 → ⊥) → rowRefusal w row ≡ unpackedRefusal row
+  pub line-picture : takesRow w ≡ true → rowRefusal w row k ≡ orElse (unpackedRefusal row) carriedRefusal
+  unfolding rowRefusal
+  line-picture t = ap (λ (s : Bool). orElse (cond s (unpackedRefusal row) none) carriedRefusal) t
+
+  pub line-row : takesRow w ≡ true → (unpackedRefusal row .number ≡ 0 → ⊥) → rowRefusal w row k ≡ unpackedRefusal row
   line-row t n = line-picture t ∙ orElse-refused (unpackedRefusal row) _ n
 
-  pub line-samples : takesRow w ≡ true → unpackedRefusal row .number ≡ 0 → rowRefusal w row ≡ sampleRefusal (dueAtWalk w) (rowSamples row)
+  pub line-samples : takesRow w ≡ true → unpackedRefusal row .number ≡ 0 → rowRefusal w row k ≡ carriedRefusal
   line-samples t z = line-picture t ∙ orElse-accepted (unpackedRefusal row) _ z
 
   -- the rows of the table for it
@@ -105,7 +115,7 @@ module _ (w : Walk) (row : List ℕ) where
   lengthRows = when ((takesRow w ≡ true) × (length row ≡ rowLength → ⊥)) wrongLength 1
 
   abbrev spareRows : Row
-  spareRows = Lowest rowWords (λ k. when ((takesRow w ≡ true) × (mostRowWord < rowWord row k)) overTen k)
+  spareRows = Lowest rowWords (λ i. when ((takesRow w ≡ true) × (mostRowWord < rowWord row i)) overTen i)
 
   abbrev sampleRows : Row
   sampleRows =
@@ -122,7 +132,7 @@ module _ (w : Walk) (row : List ℕ) where
     unfolding spareRefusal
     spare-exact =
         keeps-lowest _ (spareAt row) rowWords
-        (λ k l. numbers-when (ltb mostRowWord (rowWord row k)) ((takesRow w ≡ true) × (mostRowWord < rowWord row k)) overTen k
+        (λ i l. numbers-when (ltb mostRowWord (rowWord row i)) ((takesRow w ≡ true) × (mostRowWord < rowWord row i)) overTen i
         (λ t. (takes, ltb-true _ _ t)) (λ q. lt-ltb _ _ (q .1)) (λ z. omega arith))
 
     samples-exact : Keeps sampleRows (sampleRefusal (dueAtWalk w) (rowSamples row))
@@ -133,107 +143,120 @@ module _ (w : Walk) (row : List ℕ) where
         (λ t. (takes, reserved-test (sampleAt (rowSamples row) place) .0 t)) (λ q. reserved-test (sampleAt (rowSamples row) place) .1 (q .1))
         (λ z. omega arith)))
 
-    picture-exact : Keeps (rowRefusals w row) (orElse (unpackedRefusal row) (sampleRefusal (dueAtWalk w) (rowSamples row)))
+    picture-exact : Keeps (rowRefusals w row k) (orElse (unpackedRefusal row) carriedRefusal)
     unfolding unpackedRefusal
     picture-exact =
         let long = refuse (not (eqb (length row) rowLength)) wrongLength 1 in
         let samples = sampleRefusal (dueAtWalk w) (rowSamples row) in
-        subst (Keeps (rowRefusals w row)) (orElse-grouped long (spareRefusal row) samples)
-        (keeps-before lengthRows _ long _ length-exact (keeps-before spareRows sampleRows (spareRefusal row) samples spare-exact samples-exact))
+        let ready = packetsRefusal (dueAtWalk w) k in
+        subst (Keeps (rowRefusals w row k)) (orElse-grouped long (spareRefusal row) carriedRefusal)
+        (keeps-before lengthRows _ long _ length-exact
+        (keeps-before spareRows _ (spareRefusal row) _ spare-exact
+        (keeps-before (packetsRefusals (dueAtWalk w) k) sampleRows ready samples (packets-exact (dueAtWalk w) k) samples-exact)))
 
-  -- Each refusal of a row comes exactly when its condition holds and none earlier does.
-  pub row-exact : Keeps (rowRefusals w row) (rowRefusal w row)
+  -- a line that takes no row is refused for its packets alone
+  blank-exact : takesRow w ≡ false → Keeps (rowRefusals w row k) carriedRefusal
+  unfolding orElse
+  blank-exact f =
+      let ready = packetsRefusal (dueAtWalk w) k in
+      let samples = sampleRefusal (dueAtWalk w) (rowSamples row) in
+      keeps-before lengthRows _ none _ (inr (λ r x. true≢false (sym (x .0 .0) ∙ f), refl))
+      (keeps-before spareRows _ none _ (inr (λ r x. true≢false (sym (x .asked .0 .0) ∙ f), refl))
+      (keeps-before (packetsRefusals (dueAtWalk w) k) sampleRows ready samples (packets-exact (dueAtWalk w) k)
+      (inr (λ r x. true≢false (sym (x .asked .0 .0) ∙ f), samples-blank (rowSamples row) (dueAtWalk w) (takes-blank w f)))))
+
+  -- Each refusal of what a line is to carry comes exactly when its condition holds and none earlier does.
+  pub row-exact : Keeps (rowRefusals w row k) (rowRefusal w row k)
   row-exact =
       by-test (takesRow w)
       (λ t. rw (line-picture t) (picture-exact t))
-      (λ f. rw (line-blank f) (inr (silent f, refl)))
-    where
-      silent : takesRow w ≡ false → (r : Refusal) → rowRefusals w row r → ⊥
-      silent f r (inl x) = true≢false (sym (x .0 .0) ∙ f)
-      silent f r (inr (s, inl x)) = true≢false (sym (x .asked .0 .0) ∙ f)
-      silent f r (inr (s, inr (t, x))) = true≢false (sym (x .asked .0 .0) ∙ f)
+      (λ f. rw (line-blank f) (blank-exact f))
 
 -- ---- What the writer answers for an active part, and the words that it leaves, are the line's.
-module _ (w : Walk) (row : List ℕ) (d : Due) (is-due : d ≡ dueAtWalk w) (part words : List ℕ) (part-long : length part ≡ activeLength)
-    (size : length words ≡ lineWords w) (r : Refusal) (answer : r ≡ partRefusal d part (length words))
-    (after : List ℕ) (written : after ≡ writtenBy r (lineOf d (partSamples part)) words) where
-  only-the-samples : r ≡ sampleRefusal (dueAtWalk w) (partSamples part)
+module _ (w : Walk) (row : List ℕ) (k : Packets) (d : Due) (is-due : d ≡ dueAtWalk w) (part words : List ℕ) (part-long : length part ≡ activeLength)
+    (size : length words ≡ lineWords w) (r : Refusal) (answer : r ≡ partRefusal d part k (length words))
+    (after : List ℕ) (written : after ≡ writtenBy r (lineOf d (partContent part k)) words) where
+  only-carried : r ≡ orElse (packetsRefusal (dueAtWalk w) k) (sampleRefusal (dueAtWalk w) (partSamples part))
   unfolding dueOf
-  only-the-samples =
-      answer ∙ ap (λ (x : Due). partRefusal x part (length words)) is-due ∙ sym (part-samples (dueAtWalk w) part (length words) size part-long)
+  only-carried =
+      answer ∙ ap (λ (x : Due). partRefusal x part k (length words)) is-due ∙ sym (part-carried (dueAtWalk w) part k (length words) size part-long)
 
-  line-is : r .number ≡ 0 → after ≡ lineOf (dueAtWalk w) (partSamples part)
-  line-is z = written ∙ written-accepted r _ words z ∙ ap (λ (x : Due). lineOf x (partSamples part)) is-due
+  line-is : r .number ≡ 0 → after ≡ lineOf (dueAtWalk w) (partContent part k)
+  line-is z = written ∙ written-accepted r _ words z ∙ ap (λ (x : Due). lineOf x (partContent part k)) is-due
 
   -- of the row's samples on a line that takes a row
   pub picture-written : takesRow w ≡ true → unpackedRefusal row .number ≡ 0 → part ≡ unpackedOf row
-      → (r ≡ rowRefusal w row) × (r .number ≡ 0 → after ≡ lineOf (dueAtWalk w) (rowSamples row))
+      → (r ≡ rowRefusal w row k) × (r .number ≡ 0 → after ≡ lineOf (dueAtWalk w) (rowContent row k))
   picture-written t clear same = (
-    only-the-samples ∙ ap (λ (l : List ℕ). sampleRefusal (dueAtWalk w) (partSamples l)) same ∙ sym (line-samples w row t clear),
-    λ z. line-is z ∙ ap (λ (l : List ℕ). lineOf (dueAtWalk w) (partSamples l)) same,
+    only-carried ∙ ap (λ (l : List ℕ). orElse (packetsRefusal (dueAtWalk w) k) (sampleRefusal (dueAtWalk w) (partSamples l))) same
+        ∙ sym (line-samples w row k t clear),
+    λ z. line-is z ∙ ap (λ (l : List ℕ). lineOf (dueAtWalk w) (partContent l k)) same,
   )
 
   -- and of any part on one that takes none
-  pub blank-written : takesRow w ≡ false → (r ≡ rowRefusal w row) × (r .number ≡ 0 → after ≡ lineOf (dueAtWalk w) (rowSamples row))
+  pub blank-written : takesRow w ≡ false → (r ≡ rowRefusal w row k) × (r .number ≡ 0 → after ≡ lineOf (dueAtWalk w) (rowContent row k))
   blank-written f =
       let v = takes-blank w f in (
-        only-the-samples ∙ samples-blank (partSamples part) (dueAtWalk w) v ∙ sym (line-blank w row f),
-        λ z. line-is z ∙ blank-any (dueAtWalk w) (partSamples part) (rowSamples row) v,
+        only-carried
+            ∙ ap (orElse (packetsRefusal (dueAtWalk w) k))
+            (samples-blank (partSamples part) (dueAtWalk w) v ∙ sym (samples-blank (rowSamples row) (dueAtWalk w) v))
+            ∙ sym (line-blank w row k f),
+        λ z. line-is z ∙ blank-any (dueAtWalk w) (partSamples part) (rowSamples row) k v,
       )
 
 -- ---- The refusal that has its turn.
-module _ (w : Walk) (row : List ℕ) (room : ℕ) where
+module _ (w : Walk) (row : List ℕ) (k : Packets) (room : ℕ) where
   abbrev standing : Refusal
   standing = standingRefusal w room (lineBytes w)
 
-  pub record-standing : (standing .number ≡ 0 → ⊥) → recordRefusal w row room ≡ standing
+  pub record-standing : (standing .number ≡ 0 → ⊥) → recordRefusal w row k room ≡ standing
   unfolding recordRefusal
   record-standing n = orElse-refused standing _ n
 
-  pub record-row : standing .number ≡ 0 → recordRefusal w row room ≡ rowRefusal w row
+  pub record-row : standing .number ≡ 0 → recordRefusal w row k room ≡ rowRefusal w row k
   unfolding recordRefusal
   record-row z = orElse-accepted standing _ z
 
   -- ---- The whole answer.
-  pub recorded-refused : (recordRefusal w row room .number ≡ 0 → ⊥) → recordedOf w row room ≡ refusedAt w (recordRefusal w row room)
+  pub recorded-refused : (recordRefusal w row k room .number ≡ 0 → ⊥) → recordedOf w row k room ≡ refusedAt w (recordRefusal w row k room)
   unfolding recordedOf
-  recorded-refused n = judgement-refused (recordRefusal w row room) w _ _ n
+  recorded-refused n = judgement-refused (recordRefusal w row k room) w _ _ _ n
 
-  pub recorded-as : (r : Refusal) → recordRefusal w row room ≡ r → (r .number ≡ 0 → ⊥) → recordedOf w row room ≡ refusedAt w r
+  pub recorded-as : (r : Refusal) → recordRefusal w row k room ≡ r → (r .number ≡ 0 → ⊥) → recordedOf w row k room ≡ refusedAt w r
   recorded-as r e n = recorded-refused (λ z. n (same-number (sym e) ∙ z)) ∙ ap (refusedAt w) e
 
-  pub recorded-accepted : recordRefusal w row room .number ≡ 0 → recordedOf w row room ≡ acceptedAt w (dueAtWalk w) cleanReport
+  pub recorded-accepted : recordRefusal w row k room .number ≡ 0 → recordedOf w row k room ≡ acceptedAt w (dueAtWalk w) cleanReport (readyCounts k)
   unfolding recordedOf
-  recorded-accepted e = judgement-accepted (recordRefusal w row room) w _ _ e
+  recorded-accepted e = judgement-accepted (recordRefusal w row k room) w _ _ _ e
 
   -- an accepted line moves the walk as its own advance does
-  pub moved-recorded : walkRefusal w .number ≡ 0 → recordRefusal w row room .number ≡ 0 → movedAt w (dueAtWalk w) cleanReport ≡ recordedOf w row room
+  pub moved-recorded : walkRefusal w .number ≡ 0 → recordRefusal w row k room .number ≡ 0 → movedAt w (dueAtWalk w) cleanReport (readyCounts k) ≡ recordedOf w row k room
   moved-recorded stands z =
-      ap (λ (next : Walk). record { number = 0; place = 0; report = cleanReport; walk = next }) (moved-advanced w (dueAtWalk w) cleanReport (accepted-good w stands))
+      ap (λ (next : Walk). record { number = 0; place = 0; report = cleanReport; walk = next; packets = readyCounts k }) (moved-advanced w (dueAtWalk w) cleanReport (accepted-good w stands))
       ∙ sym (recorded-accepted z)
 
 -- ---- The line's bytes afterwards.
-module _ (w : Walk) (row held : List ℕ) where
-  pub bytes-refused : (recordRefusal w row (length held) .number ≡ 0 → ⊥) → lineBytesAfter w row held ≡ held
+module _ (w : Walk) (row : List ℕ) (k : Packets) (held : List ℕ) where
+  pub bytes-refused : (recordRefusal w row k (length held) .number ≡ 0 → ⊥) → lineBytesAfter w row k held ≡ held
   unfolding lineBytesAfter
-  bytes-refused n = written-refused (recordRefusal w row (length held)) _ held n
+  bytes-refused n = written-refused (recordRefusal w row k (length held)) _ held n
 
-  pub bytes-refused-as : (r : Refusal) → recordRefusal w row (length held) ≡ r → (r .number ≡ 0 → ⊥) → lineBytesAfter w row held ≡ held
+  pub bytes-refused-as : (r : Refusal) → recordRefusal w row k (length held) ≡ r → (r .number ≡ 0 → ⊥) → lineBytesAfter w row k held ≡ held
   bytes-refused-as r e n = bytes-refused (λ z. n (same-number (sym e) ∙ z))
 
-  pub bytes-accepted : recordRefusal w row (length held) .number ≡ 0 → lineBytesAfter w row held ≡ lineBytesOf w row
+  pub bytes-accepted : recordRefusal w row k (length held) .number ≡ 0 → lineBytesAfter w row k held ≡ lineBytesOf w row k
   unfolding lineBytesAfter
-  bytes-accepted e = written-accepted (recordRefusal w row (length held)) _ held e
+  bytes-accepted e = written-accepted (recordRefusal w row k (length held)) _ held e
 
 -- a line's words as bytes, where there is room for them
-pub line-bytes-filled : (w : Walk) (row held words after : List ℕ) (r : Refusal) → length held ≡ lineBytes w
-    → words ≡ lineOf (dueAtWalk w) (rowSamples row) → r ≡ pairsRefusal (length held) (length words) → after ≡ writtenBy r (bytesOf words) held
-    → recordRefusal w row (length held) .number ≡ 0 → after ≡ lineBytesAfter w row held
+pub line-bytes-filled : (w : Walk) (row : List ℕ) (k : Packets) (held words after : List ℕ) (r : Refusal) → length held ≡ lineBytes w
+    → words ≡ lineOf (dueAtWalk w) (rowContent row k) → r ≡ pairsRefusal (length held) (length words) → after ≡ writtenBy r (bytesOf words) held
+    → recordRefusal w row k (length held) .number ≡ 0 → after ≡ lineBytesAfter w row k held
 unfolding lineBytesOf
-line-bytes-filled w row held words after r size is answer filled z =
-    let words-long = ap length is ∙ line-words w (rowSamples row) in
+line-bytes-filled w row k held words after r size is answer filled z =
+    let words-long = ap length is ∙ line-words w (rowContent row k) in
     let twice = size ∙ ap (λ (n : ℕ). 2 * n) (sym words-long) in
     filled
     ∙ written-accepted r (bytesOf words) held (same-number (answer ∙ pairs-accepted (length held) (length words) twice))
     ∙ ap bytesOf is
-    ∙ sym (bytes-accepted w row held z)
+    ∙ sym (bytes-accepted w row k held z)

@@ -9,6 +9,7 @@ use Rattle.intake.specs.Arrival.{allPieces}
 use Rattle.confirmation.specs.declared.Run.{Run}
 use Rattle.confirmation.specs.Run.{headerLength, begunOf}
 use Rattle.system.specs.Walk.{lineBytes}
+use Rattle.system.specs.Judgement.{noPackets}
 use Rattle.v210.specs.Row.{rowLength}
 use Rattle.programme.specs.declared.extractor.Extraction.{Extraction}
 use Rattle.programme.specs.Extract.{givesRow, extractedOf, rowOfLine, rowAfterLine}
@@ -26,12 +27,16 @@ extractedRun r bytes room =
       place = extractedOf (r .walk) bytes room .place;
     }
 
--- that run, and whether a row was given; a run that has ended stays as it is and gives none
+-- that run, whether a row was given, and how many words are packets; a run that has ended stays as it is and gives none
 unfoldable pub extractionOf : Run → List ℕ → ℕ → Extraction
 extractionOf r bytes room =
     cond (eqb (r .number) 0)
-    (record { run = extractedRun r bytes room; gives = eqb (extractedOf (r .walk) bytes room .number) 0 && givesRow (r .walk) bytes })
-    (record { run = r; gives = false })
+    (record {
+      run = extractedRun r bytes room;
+      gives = eqb (extractedOf (r .walk) bytes room .number) 0 && givesRow (r .walk) bytes;
+      packets = extractedOf (r .walk) bytes room .packets;
+    })
+    (record { run = r; gives = false; packets = noPackets })
 
 -- the row afterwards
 unfoldable pub rowAfterNext : Run → List ℕ → List ℕ → List ℕ

@@ -1,4 +1,4 @@
--- A programme's rows into the lines of a recording: the whole answer of recording one line, and the bytes afterwards.
+-- A programme's rows and packets into the lines of a recording: the whole answer of recording one line, and the bytes afterwards.
 use Prim.Native.Nat.{ℕ, _+_, _*_}
 use mathlib.Core.Path.{_≡_}
 use mathlib.Core.List.{List}
@@ -13,13 +13,15 @@ use Rattle.timing.specs.Report.{cleanReport}
 use Rattle.system.specs.declared.System.{System}
 use Rattle.system.specs.declared.due.Due.{Due}
 use Rattle.system.specs.declared.walk.Walk.{Walk}
+use Rattle.system.specs.declared.walk.PacketWords.{PacketWords}
 use Rattle.system.specs.declared.walk.Judgement.{Judgement}
 use Rattle.system.specs.Figures.{lineCount, systemOf}
 use Rattle.system.specs.Due.{dueOf}
 use Rattle.system.specs.Walk.{mostLines, walkRefusal, lineBytes, standingRefusal}
 use Rattle.system.specs.Judgement.{judgementOf}
-use Rattle.line.specs.Samples.{Samples, partSamples, lineOf}
-use Rattle.writer.specs.Write.{sampleRefusal}
+use Rattle.line.specs.Samples.{Samples, Packets, Content, partSamples, lineOf}
+use Rattle.line.specs.Fit.{Carried}
+use Rattle.writer.specs.Write.{packetsRefusal, sampleRefusal}
 use Rattle.v210.specs.Row.{rowLength, unpackedOf, spareRefusal}
 
 -- what is due in the line that a walk awaits, where it is written
@@ -57,31 +59,42 @@ rowSamples row = partSamples (unpackedOf row)
 unfoldable pub unpackedRefusal : List ℕ → Refusal
 unpackedRefusal row = orElse (refuse (not (eqb (length row) rowLength)) wrongLength 1) (spareRefusal row)
 
--- what refuses a row, where one is due: the row itself, and "a sample outside 4 to 1019 is 12 with its place"
-unfoldable pub rowRefusal : Walk → List ℕ → Refusal
-rowRefusal w row =
-    cond (takesRow w) (orElse (unpackedRefusal row) (sampleRefusal (dueAtWalk w) (rowSamples row))) none
+-- what refuses what a line is to carry: the row itself, where one is due; the writer's refusals of ready packet words; and "a sample outside 4
+-- to 1019 is 12 with its place"
+unfoldable pub rowRefusal : Walk → List ℕ → Packets → Refusal
+rowRefusal w row k =
+    orElse (cond (takesRow w) (unpackedRefusal row) none)
+    (orElse (packetsRefusal (dueAtWalk w) k) (sampleRefusal (dueAtWalk w) (rowSamples row)))
 
--- the walk's refusals, among them "a row past 10,000,000 lines is 4"; 3 at 0 for the line's bytes; then the row's
-unfoldable pub recordRefusal : Walk → List ℕ → ℕ → Refusal
-recordRefusal w row room = orElse (standingRefusal w room (lineBytes w)) (rowRefusal w row)
+-- the walk's refusals, among them "a row past 10,000,000 lines is 4"; 3 at 0 for the line's bytes; then those of what it is to carry
+unfoldable pub recordRefusal : Walk → List ℕ → Packets → ℕ → Refusal
+recordRefusal w row k room = orElse (standingRefusal w room (lineBytes w)) (rowRefusal w row k)
 
--- the whole answer: a line that is written is clean
-unfoldable pub recordedOf : Walk → List ℕ → ℕ → Judgement
-recordedOf w row room = judgementOf (recordRefusal w row room) w (dueAtWalk w) cleanReport
+-- how many words ready packets are
+abbrev pub readyCounts : Packets → PacketWords
+readyCounts k = record { between = length (k .between); active = length (k .active) }
 
--- the line as bytes; "V = 1 lines are written as fill", whatever the row
-unfoldable pub lineBytesOf : Walk → List ℕ → List ℕ
-lineBytesOf w row = bytesOf (lineOf (dueAtWalk w) (rowSamples row))
+-- the whole answer: a line that is written is clean, and has its packets
+unfoldable pub recordedOf : Walk → List ℕ → Packets → ℕ → Judgement
+recordedOf w row k room = judgementOf (recordRefusal w row k room) w (dueAtWalk w) cleanReport (readyCounts k)
+
+-- what the line carries of a row and ready packets
+abbrev pub rowContent : List ℕ → Packets → Content
+rowContent row k = record { samples = rowSamples row; packets = k }
+
+-- the line as bytes; "V = 1 lines are written as fill", whatever the row, behind their packets
+unfoldable pub lineBytesOf : Walk → List ℕ → Packets → List ℕ
+lineBytesOf w row k = bytesOf (lineOf (dueAtWalk w) (rowContent row k))
 
 -- the line's bytes afterwards: "nothing of that line is written" where it is refused
-unfoldable pub lineBytesAfter : Walk → List ℕ → List ℕ → List ℕ
-lineBytesAfter w row before = writtenBy (recordRefusal w row (length before)) (lineBytesOf w row) before
+unfoldable pub lineBytesAfter : Walk → List ℕ → Packets → List ℕ → List ℕ
+lineBytesAfter w row k before = writtenBy (recordRefusal w row k (length before)) (lineBytesOf w row k) before
 
 -- what a line that is recorded was given
-pub record Recordable (w : Walk) (row : List ℕ) (room : ℕ) : Type 0 where
+pub record Recordable (w : Walk) (row : List ℕ) (k : Packets) (room : ℕ) : Type 0 where
   pub walk : walkRefusal w .number ≡ 0
   pub whole : room ≡ lineBytes w
   pub long : takesRow w ≡ true → length row ≡ rowLength
   pub spare : takesRow w ≡ true → spareRefusal row .number ≡ 0
+  pub packets : Carried (dueAtWalk w) k
   pub samples : takesRow w ≡ true → sampleRefusal (dueAtWalk w) (rowSamples row) .number ≡ 0

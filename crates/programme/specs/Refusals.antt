@@ -10,22 +10,24 @@ use Rattle.refusal.specs.Table.{Row, when, _before_, Lowest}
 use Rattle.system.specs.declared.walk.Walk.{Walk}
 use Rattle.system.specs.Walk.{lineBytes}
 use Rattle.system.specs.Refusals.{standingRefusals}
-use Rattle.line.specs.Fault.{leastSample, mostSample}
-use Rattle.line.specs.Samples.{activeLength, sampleAt}
+use Rattle.words.specs.Words.{leastSample, mostSample}
+use Rattle.line.specs.Samples.{Packets, activeLength, sampleAt}
+use Rattle.writer.specs.Refusals.{packetsRefusals}
 use Rattle.bytewise.specs.Refusals.{bytesRefusals}
 use Rattle.v210.specs.Row.{rowLength, rowWords, rowWord, mostRowWord}
-use Rattle.programme.specs.Record.{takesRow, rowSamples}
+use Rattle.programme.specs.Record.{dueAtWalk, takesRow, rowSamples}
 
--- the rows for a row, where one is due
-abbrev pub rowRefusals : Walk → List ℕ → Row
-rowRefusals w row =
+-- the rows for what a line is to carry: a row, where one is due, and ready packet words
+abbrev pub rowRefusals : Walk → List ℕ → Packets → Row
+rowRefusals w row k =
     when ((takesRow w ≡ true) × (length row ≡ rowLength → ⊥)) wrongLength 1
-    before Lowest rowWords (λ k. when ((takesRow w ≡ true) × (mostRowWord < rowWord row k)) overTen k)
+    before Lowest rowWords (λ i. when ((takesRow w ≡ true) × (mostRowWord < rowWord row i)) overTen i)
+    before packetsRefusals (dueAtWalk w) k
     before Lowest activeLength
     (λ place. when ((takesRow w ≡ true) × ((sampleAt (rowSamples row) place < leastSample) ⊎ (mostSample < sampleAt (rowSamples row) place))) outside place)
 
-abbrev pub recordRefusals : Walk → List ℕ → ℕ → Row
-recordRefusals w row room = standingRefusals w room (lineBytes w) before rowRefusals w row
+abbrev pub recordRefusals : Walk → List ℕ → Packets → ℕ → Row
+recordRefusals w row k room = standingRefusals w room (lineBytes w) before rowRefusals w row k
 
 abbrev pub extractRefusals : Walk → List ℕ → ℕ → Row
 extractRefusals w bytes room = bytesRefusals w bytes before when (room ≡ rowLength → ⊥) wrongLength 1

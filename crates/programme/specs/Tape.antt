@@ -8,6 +8,7 @@ use Rattle.intake.specs.Arrival.{allPieces}
 use Rattle.system.specs.declared.System.the-variants.{Lines625}
 use Rattle.system.specs.Figures.{lineCount}
 use Rattle.system.specs.Walk.{walkRefusal, freshOf, lineBytes}
+use Rattle.line.specs.Samples.{Packets, nothingReady}
 use Rattle.v210.specs.Row.{rowLength}
 use Rattle.programme.specs.declared.tape.Tape.{Tape}
 use Rattle.programme.specs.Record.{takesRow, endsFrame, endsPiece, recordedOf, lineBytesOf, lineBytesAfter}
@@ -29,26 +30,26 @@ turnedOf t =
     record { walk = freshOf (t .walk .system) (t .walk .line) .walk; most = t .most; number = t .number; place = t .place }
 
 -- the tape after its awaited line, with a buffer of so many bytes: one that was refused stays as it is
-unfoldable pub tapedOf : Tape → List ℕ → ℕ → Tape
-tapedOf t row room =
+unfoldable pub tapedOf : Tape → List ℕ → Packets → ℕ → Tape
+tapedOf t row k room =
     cond (eqb (t .number) 0)
     (record {
-      walk = recordedOf (t .walk) row room .walk;
+      walk = recordedOf (t .walk) row k room .walk;
       most = t .most;
-      number = recordedOf (t .walk) row room .number;
-      place = recordedOf (t .walk) row room .place;
+      number = recordedOf (t .walk) row k room .number;
+      place = recordedOf (t .walk) row k room .place;
     })
     t
 
 -- that line's bytes afterwards
-unfoldable pub lineTaped : Tape → List ℕ → List ℕ → List ℕ
-lineTaped t row before = cond (eqb (t .number) 0) (lineBytesAfter (t .walk) row before) before
+unfoldable pub lineTaped : Tape → List ℕ → Packets → List ℕ → List ℕ
+lineTaped t row k before = cond (eqb (t .number) 0) (lineBytesAfter (t .walk) row k before) before
 
 -- "after the last row those up to the end of its frame", as far as there may be lines
 unfoldable pub endsAt : Tape → Bool
 endsAt t = eqb (t .number) 0 && (endsFrame (t .walk) && eqb (walkRefusal (t .walk) .number) 0)
 
--- ---- the whole
+-- ---- the whole, of rows alone
 
 -- what is written: the lines of the recording at hand, the recordings behind it, each its start line and its lines, and the tape at the end
 pub record Wrote : Type 0 where
@@ -70,21 +71,25 @@ nextFrom turns start rest = cond turns (record { lines = []; more = (start, rest
 abbrev pub atLine : Tape → Tape
 atLine t = cond (turnsAt t) (turnedOf t) t
 
+-- the tape after a line without packets
+abbrev pub bareTaped : Tape → List ℕ → ℕ → Tape
+bareTaped t row room = tapedOf t row nothingReady room
+
 -- One row, by way of a buffer of so many bytes: V = 1 lines as fill up to the line that takes it, at most k in all, and then what follows. "A
 -- refusal stops": nothing of that line is written.
 unfoldable pub onto : ℕ → ℕ → Tape → List ℕ → (Tape → Wrote) → Wrote
 onto room zero t row rest = rest t
 onto room (suc k) t row rest =
     nextFrom (turnsAt t) (t .walk .line)
-    (cond (eqb (tapedOf (atLine t) row room .number) 0)
-    (lineThen (lineBytesOf (atLine t .walk) row)
-    (cond (takesRow (atLine t .walk)) (rest (tapedOf (atLine t) row room)) (onto room k (tapedOf (atLine t) row room) row rest)))
-    (nothingMore (tapedOf (atLine t) row room)))
+    (cond (eqb (bareTaped (atLine t) row room .number) 0)
+    (lineThen (lineBytesOf (atLine t .walk) row nothingReady)
+    (cond (takesRow (atLine t .walk)) (rest (bareTaped (atLine t) row room)) (onto room k (bareTaped (atLine t) row room) row rest)))
+    (nothingMore (bareTaped (atLine t) row room)))
 
 -- the end of the last frame, at most k lines
 unfoldable pub endOf : ℕ → ℕ → Tape → Wrote
 endOf room zero t = nothingMore t
-endOf room (suc k) t = cond (endsAt t) (lineThen (lineBytesOf (t .walk) []) (endOf room k (tapedOf t [] room))) (nothingMore t)
+endOf room (suc k) t = cond (endsAt t) (lineThen (lineBytesOf (t .walk) [] nothingReady) (endOf room k (bareTaped t [] room))) (nothingMore t)
 
 -- no frame has more lines in turn without a row
 abbrev pub mostTurns : ℕ

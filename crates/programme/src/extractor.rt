@@ -13,12 +13,14 @@ use line::ACTIVE_LENGTH;
 use refusal::Number;
 use refusal::Refusal;
 use system::Judgement;
+use system::PacketWords;
 use system::Walk;
 
-// A run after a line's bytes, and whether they gave a row.
+// A run after a line's bytes, whether they gave a row, and how many of their words are packets.
 pub struct Extraction {
     pub run: Run,
     pub gives: bool,
+    pub packets: PacketWords,
 }
 
 // Packs an active part's bytes into a row, by way of room for its words.
@@ -78,14 +80,18 @@ fn gives_row(walk: Walk, bytes: &[u8]) -> bool
     !due.v
 }
 
-// Extracting as a run in steps: the run after these bytes, a line's or what is left at the end, as its next line, and whether they gave the
-// row. A run that has ended stays as it is.
+// Extracting as a run in steps: the run after these bytes, a line's or what is left at the end, as its next line, whether they gave the row, and
+// the packets in them. A run that has ended stays as it is.
 pub fn extract_next(run: Run, bytes: &[u8], row: &mut [u8]) -> Extraction
     ensures answer { λ r. ⌜ r ≡ extractionOf run (now (bytes .entry)) (length (now (row .entry))) ⌝ }
     ensures row { λ r. ⌜ now (row .exit) ≡ rowAfterNext run (now (bytes .entry)) (now (row .entry)) ⌝ }
 {
     if run.number != 0 {
-        return Extraction { run, gives: false };
+        return Extraction {
+            run,
+            gives: false,
+            packets: PacketWords::NONE,
+        };
     }
     let judgement = extract(run.walk, bytes, row);
     let walk = judgement.walk;
@@ -96,14 +102,17 @@ pub fn extract_next(run: Run, bytes: &[u8], row: &mut [u8]) -> Extraction
         number: judgement.number,
         place: judgement.place,
     };
+    let packets = judgement.packets;
     if judgement.number != 0 {
         return Extraction {
             run: next,
             gives: false,
+            packets,
         };
     }
     Extraction {
         run: next,
         gives: gives_row(run.walk, bytes),
+        packets,
     }
 }

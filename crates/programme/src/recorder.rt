@@ -1,30 +1,38 @@
-// Recording a line: a row's samples, or fill, as the line's bytes.
+// Recording a line: a row's samples, or fill, and packets as the line's bytes.
 ghost use mathlib.Core.Path.{_≡_};
 ghost use Prim.Native.Nat.{_*_};
 ghost use lib.ListN.{length};
 ghost use Rattle.system.specs.Walk.{walkRefusal, lineWords};
 ghost use Rattle.line.specs.Samples.{activeLength, lineOf};
-ghost use Rattle.programme.specs.Record.{dueAtWalk, rowSamples, rowRefusal, recordedOf, lineBytesAfter};
+ghost use Rattle.programme.specs.Record.{dueAtWalk, rowContent, rowRefusal, recordedOf, lineBytesAfter};
 use crate::due_at;
 use line::ACTIVE_LENGTH;
 use refusal::Number;
 use refusal::Refusal;
 use system::Judgement;
+use system::PacketWords;
 use system::System625;
 use system::Walk;
 use timing::CodeReport;
 use timing::Report;
 
 // Writes the line that a walk awaits into words, by way of room for its active part: on V = 0 lines the row's, which is 3 at 1 where it is
-// short, then 5 at its first word with a spare bit set, and otherwise fill.
-fn write_row(walk: Walk, row: &[u8], part: &mut [u16], words: &mut [u16]) -> Refusal
+// short, then 5 at its first word with a spare bit set, and otherwise fill; and ready packet words.
+fn write_row(
+    walk: Walk,
+    row: &[u8],
+    between: &[u16],
+    active: &[u16],
+    part: &mut [u16],
+    words: &mut [u16],
+) -> Refusal
     requires { ⌜ (length (now part) ≡ activeLength) × (length (now words) ≡ lineWords walk) ⌝ }
-    ensures answer { λ r. ⌜ r ≡ rowRefusal walk (now (row .entry)) ⌝ }
-    ensures words { λ r. ⌜ (r .number ≡ 0 → now (words .exit) ≡ lineOf (dueAtWalk walk) (rowSamples (now (row .entry)))) ⌝ }
+    ensures answer { λ r. ⌜ r ≡ rowRefusal walk (now (row .entry)) (record { between = now (between .entry); active = now (active .entry) }) ⌝ }
+    ensures words { λ r. ⌜ (r .number ≡ 0 → now (words .exit) ≡ lineOf (dueAtWalk walk) (rowContent (now (row .entry)) (record { between = now (between .entry); active = now (active .entry) }))) ⌝ }
 {
     let due = due_at(walk);
     if due.v {
-        return writer::write_part(due, part, words);
+        return writer::write_part(due, part, between, active, words);
     }
     if row.len() != v210::ROW_LENGTH {
         return Refusal {
@@ -36,26 +44,33 @@ fn write_row(walk: Walk, row: &[u8], part: &mut [u16], words: &mut [u16]) -> Ref
     if refusal.number != 0 {
         return refusal;
     }
-    writer::write_part(due, part, words)
+    writer::write_part(due, part, between, active, words)
 }
 
 // The same, with room of its own for the active part.
-fn write_line(walk: Walk, row: &[u8], words: &mut [u16]) -> Refusal
+fn write_line(walk: Walk, row: &[u8], between: &[u16], active: &[u16], words: &mut [u16]) -> Refusal
     requires { ⌜ length (now words) ≡ lineWords walk ⌝ }
-    ensures answer { λ r. ⌜ r ≡ rowRefusal walk (now (row .entry)) ⌝ }
-    ensures words { λ r. ⌜ (r .number ≡ 0 → now (words .exit) ≡ lineOf (dueAtWalk walk) (rowSamples (now (row .entry)))) ⌝ }
+    ensures answer { λ r. ⌜ r ≡ rowRefusal walk (now (row .entry)) (record { between = now (between .entry); active = now (active .entry) }) ⌝ }
+    ensures words { λ r. ⌜ (r .number ≡ 0 → now (words .exit) ≡ lineOf (dueAtWalk walk) (rowContent (now (row .entry)) (record { between = now (between .entry); active = now (active .entry) }))) ⌝ }
 {
     let mut part = [0u16; ACTIVE_LENGTH];
-    write_row(walk, row, &mut part, words)
+    write_row(walk, row, between, active, &mut part, words)
 }
 
 // Records the line that a walk awaits, by way of room for its words.
-fn record_in(walk: Walk, row: &[u8], words: &mut [u16], line: &mut [u8]) -> Judgement
+fn record_in(
+    walk: Walk,
+    row: &[u8],
+    between: &[u16],
+    active: &[u16],
+    words: &mut [u16],
+    line: &mut [u8],
+) -> Judgement
     requires { ⌜ (walkRefusal walk .number ≡ 0) × (length (now words) ≡ lineWords walk) × (length (now line) ≡ 2 * length (now words)) ⌝ }
-    ensures answer { λ r. ⌜ r ≡ recordedOf walk (now (row .entry)) (length (now (line .entry))) ⌝ }
-    ensures line { λ r. ⌜ now (line .exit) ≡ lineBytesAfter walk (now (row .entry)) (now (line .entry)) ⌝ }
+    ensures answer { λ r. ⌜ r ≡ recordedOf walk (now (row .entry)) (record { between = now (between .entry); active = now (active .entry) }) (length (now (line .entry))) ⌝ }
+    ensures line { λ r. ⌜ now (line .exit) ≡ lineBytesAfter walk (now (row .entry)) (record { between = now (between .entry); active = now (active .entry) }) (now (line .entry)) ⌝ }
 {
-    let refusal = write_line(walk, row, words);
+    let refusal = write_line(walk, row, between, active, words);
     if refusal.number != 0 {
         return Judgement::refused(walk, refusal);
     }
@@ -64,15 +79,20 @@ fn record_in(walk: Walk, row: &[u8], words: &mut [u16], line: &mut [u8]) -> Judg
         eav: CodeReport::Clean,
         sav: CodeReport::Clean,
     };
-    Judgement::accepted(walk, due_at(walk), clean)
+    let packets = PacketWords {
+        between: between.len(),
+        active: active.len(),
+    };
+    Judgement::accepted(walk, due_at(walk), clean, packets)
 }
 
-// Records the line that a walk awaits as bytes: a V = 0 line of the row's samples, a V = 1 line as fill, whatever the row. Refused are 1, 2,
-// 4, 3 at 0 for the line's bytes, and of a row that is due 3 at 1 for its length, 5 at its first word with a spare bit set, 12 at its first
-// sample outside 4 to 1019. A refusal leaves the line's bytes as they were.
-pub fn record(walk: Walk, row: &[u8], line: &mut [u8]) -> Judgement
-    ensures answer { λ r. ⌜ r ≡ recordedOf walk (now (row .entry)) (length (now (line .entry))) ⌝ }
-    ensures line { λ r. ⌜ now (line .exit) ≡ lineBytesAfter walk (now (row .entry)) (now (line .entry)) ⌝ }
+// Records the line that a walk awaits as bytes: a V = 0 line of the row's samples, a V = 1 line as fill, whatever the row, and ready packet words
+// for each space. Refused are 1, 2, 4, 3 at 0 for the line's bytes, of a row that is due 3 at 1 for its length and 5 at its first word with a
+// spare bit set, ready packet words as the writer refuses them, and 12 at the row's first sample outside 4 to 1019. A refusal leaves the line's
+// bytes as they were.
+pub fn record(walk: Walk, row: &[u8], between: &[u16], active: &[u16], line: &mut [u8]) -> Judgement
+    ensures answer { λ r. ⌜ r ≡ recordedOf walk (now (row .entry)) (record { between = now (between .entry); active = now (active .entry) }) (length (now (line .entry))) ⌝ }
+    ensures line { λ r. ⌜ now (line .exit) ≡ lineBytesAfter walk (now (row .entry)) (record { between = now (between .entry); active = now (active .entry) }) (now (line .entry)) ⌝ }
 {
     let standing = walk.standing(line.len(), walk.line_bytes());
     if standing.number != 0 {
@@ -80,5 +100,5 @@ pub fn record(walk: Walk, row: &[u8], line: &mut [u8]) -> Judgement
     }
     let length = walk.line_words();
     let mut words = [0u16; System625::LINE_LENGTH];
-    record_in(walk, row, &mut words[0..length], line)
+    record_in(walk, row, between, active, &mut words[0..length], line)
 }

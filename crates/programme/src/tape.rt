@@ -53,14 +53,14 @@ impl Tape {
     }
 
     // The tape after its awaited line, which is recorded as `record` does. A tape that was refused stays as it is.
-    pub fn next(self, row: &[u8], line: &mut [u8]) -> Tape
-        ensures answer { λ r. ⌜ r ≡ tapedOf self (now (row .entry)) (length (now (line .entry))) ⌝ }
-        ensures line { λ r. ⌜ now (line .exit) ≡ lineTaped self (now (row .entry)) (now (line .entry)) ⌝ }
+    pub fn next(self, row: &[u8], between: &[u16], active: &[u16], line: &mut [u8]) -> Tape
+        ensures answer { λ r. ⌜ r ≡ tapedOf self (now (row .entry)) (record { between = now (between .entry); active = now (active .entry) }) (length (now (line .entry))) ⌝ }
+        ensures line { λ r. ⌜ now (line .exit) ≡ lineTaped self (now (row .entry)) (record { between = now (between .entry); active = now (active .entry) }) (now (line .entry)) ⌝ }
     {
         if self.number != 0 {
             return self;
         }
-        let judgement = record(self.walk, row, line);
+        let judgement = record(self.walk, row, between, active, line);
         let walk = judgement.walk;
         Tape {
             walk,

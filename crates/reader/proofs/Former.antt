@@ -6,7 +6,7 @@ use mathlib.Core.List.{List, [], _∷_}
 use mathlib.Core.Logic.{inl, inr}
 use native.Mathlib.Omega.{arith}
 use lib.Dec.{eqb}
-use lib.ListN.{length, getD}
+use lib.ListN.{length}
 use borrow.Author.Tests.{eqb-true, eqb-false}
 use Rattle.refusal.specs.declared.Refusal.{Refusal}
 use Rattle.refusal.specs.Numbers.{wrongLength}
@@ -16,20 +16,24 @@ use Rattle.refusal.proofs.Cases.{by-test}
 use Rattle.refusal.proofs.Firsts.{orElse-accepted, orElse-refused, same-number}
 use Rattle.refusal.proofs.Tables.{alone}
 use Rattle.words.specs.Words.{tabFrom, tab, mostWord}
+use Rattle.packets.specs.declared.due.What as packet
+use Rattle.packets.specs.declared.due.What.the-variants.{Exactly, Header, Count, User, Checksum}
+use Rattle.packets.specs.Fault.{wordAt}
+use Rattle.packets.specs.Refusals as space
 use Rattle.timing.specs.Refusals.{fourthRefusals}
 use Rattle.system.specs.declared.due.Due.{Due}
 use Rattle.system.specs.declared.walk.Walk.{Walk}
 use Rattle.system.specs.declared.System.the-variants.{Lines525}
 use Rattle.system.specs.Figures.{systemNumber, lineLength, isSystem, systemOf}
-use Rattle.system.specs.Walk.{walkRefusal, namedRefusal, isLine, standingRefusal, lineWords, dueIn, freshWalk}
+use Rattle.system.specs.Due.{dueOf}
+use Rattle.system.specs.Walk.{walkRefusal, namedRefusal, isLine, standingRefusal, lineWords, dueBy, dueIn, freshWalk}
 use Rattle.system.specs.Judgement.{refusedAt, judgementOf}
 use Rattle.system.proofs.Laws.{judgement-number}
 use Rattle.line.specs.declared.What.{What}
 use Rattle.line.specs.declared.What.the-variants.{Ones, Zeros, Fourth, Fill, Sample}
-use Rattle.line.specs.Offsets.{dueAt}
-use Rattle.line.specs.Fault.{faultWhere, faultAt, wordRefusal}
+use Rattle.line.specs.Fault.{faultWhere, Wanted, within, apart, wantedAt, faultOf, wordRefusal, countsOf}
 use Rattle.line.specs.Lengths.{bufferRefusal, bufferRefusals}
-use Rattle.line.specs.Refusals.{whereRefusals, offsetRefusals, wordRefusals}
+use Rattle.line.specs.Refusals.{whereRefusals, wantedRefusals, offsetRefusals, wordRefusals}
 use Rattle.line.specs.Samples.{Samples}
 use Rattle.line.proofs.Theorems.{buffer-exact, words-exact}
 use Rattle.reader.specs.Judge.{reportOf, judgedOf}
@@ -60,9 +64,21 @@ where-number (Fourth fvh) w i r q e = fourth-number fvh w i r q e
 where-number (Fill word) w i r q e = omega (arith, same-number (q .1))
 where-number Sample w i r q e = omega (arith, same-number (q .1))
 
+space-number : (due : packet.What) (w i : ℕ) (r : Refusal) → space.whereRefusals due w i r → r .number ≡ wrongLength → ⊥
+space-number (Exactly word) w i r q e = omega (arith, same-number (q .1))
+space-number Header w i r q e = omega (arith, same-number (q .1))
+space-number (Count room) w i r (inl q) e = omega (arith, same-number (q .1))
+space-number (Count room) w i r (inr (_, q)) e = omega (arith, same-number (q .1))
+space-number User w i r q e = omega (arith, same-number (q .1))
+space-number (Checksum word) w i r q e = omega (arith, same-number (q .1))
+
+wanted-number : (wanted : Wanted) (w i : ℕ) (r : Refusal) → wantedRefusals wanted w i r → r .number ≡ wrongLength → ⊥
+wanted-number (within due) w i r q e = space-number due w i r q e
+wanted-number (apart due) w i r q e = where-number due w i r q e
+
 offset-number : (d : Due) (words : List ℕ) (i : ℕ) (r : Refusal) → offsetRefusals d words i r → r .number ≡ wrongLength → ⊥
 offset-number d words i r (inl q) e = omega (arith, same-number (q .1))
-offset-number d words i r (inr (_, q)) e = where-number (dueAt d i) (getD words i 0) i r q e
+offset-number d words i r (inr (_, q)) e = wanted-number (wantedAt d (wordAt words) i) (wordAt words i) i r q e
 
 module _ (w : Walk) (words : List ℕ) (b : Samples) where
   abbrev standing : Refusal
@@ -124,7 +140,11 @@ module _ (w : Walk) (words : List ℕ) (b : Samples) where
 
   -- ---- what comes of that refusal
   abbrev answeredBy : Refusal → Turn
-  answeredBy r = record { judgement = judgementOf r w (dueIn w words) (reportOf (dueIn w words) words); buffers = takenInto r (dueIn w words) words b }
+  answeredBy r =
+      record {
+        judgement = judgementOf r w (dueIn w words) (reportOf (dueIn w words) words) (countsOf (dueIn w words) words);
+        buffers = takenInto r (dueIn w words) words b;
+      }
 
   turn-answered : inTurn w words b ≡ answeredBy (takeRefusal w words b)
   turn-answered = rw (turn-judged w words b)
@@ -140,7 +160,7 @@ module _ (w : Walk) (words : List ℕ) (b : Samples) where
   not-former both same =
       let number : word .number ≡ formerRefusal .number =
       ap (λ (t : Turn). t .judgement .number) (sym (word-refused both) ∙ same)
-      ∙ judgement-number formerRefusal w (dueIn w words) (reportOf (dueIn w words) words) in
+      ∙ judgement-number formerRefusal w (dueIn w words) (reportOf (dueIn w words) words) (countsOf (dueIn w words) words) in
       let three = same-number (formerly (both .stands) ∙ orElse-refused buffers word (both .buffer)) ∙ buffers-three (both .buffer) in
       word-no-three (both .word) (number ∙ three)
 
@@ -156,5 +176,5 @@ order-amended w words b =
 
 -- that there is such a line: words over 1023, and no room for samples
 pub both-met : Both (freshWalk (systemNumber Lines525) 1) (tab (lineLength Lines525) (λ i. mostWord + 1)) (record { y = []; cb = []; cr = [] })
-unfolding walkRefusal namedRefusal isSystem isLine systemOf orElse wordRefusal firstFrom faultAt faultWhere bufferRefusal tabFrom
+unfolding walkRefusal namedRefusal isSystem isLine systemOf orElse dueBy dueOf wordRefusal firstFrom faultOf faultWhere bufferRefusal tabFrom
 both-met = record { stands = refl; word = λ e. omega (arith, e); buffer = λ e. omega (arith, e) }

@@ -1,11 +1,11 @@
 -- Laws of the judgement, for all who judge a line at a walk: each refusal in its turn, what is known of a line that none refuses, and that the
--- answer keeps to its table. Assumes nothing.
+-- answer keeps to its table; and of the active part and the packets that are lent of it. Assumes nothing.
 use Prim.Native.Nat.{ℕ, _+_, _≤_}
 use mathlib.Core.Path.{_≡_, refl, sym, ap, _∙_}
 use mathlib.Core.List.{List, []}
 use native.Mathlib.Omega.{arith}
 use lib.Dec.{eqb}
-use lib.ListN.{length, take, drop}
+use lib.ListN.{length, getD, take, drop}
 use borrow.Author.Tests.{eq-eqb, ne-eqb, eqb-true, eqb-false}
 use Rattle.refusal.specs.declared.Refusal.{Refusal}
 use Rattle.refusal.specs.Answer.{none}
@@ -13,18 +13,20 @@ use Rattle.refusal.specs.Table.{Decides, Keeps}
 use Rattle.refusal.proofs.Cases.{by-test}
 use Rattle.refusal.proofs.Firsts.{orElse-accepted, orElse-refused, orElse-none}
 use Rattle.refusal.proofs.Tables.{alone, keeps-before, keeps-last, decides-before}
+use Rattle.packets.specs.Fault.{wordAt}
 use Rattle.system.specs.declared.walk.Walk.{Walk}
 use Rattle.system.specs.declared.walk.Judgement.{Judgement}
-use Rattle.system.specs.Figures.{activeOffset, systemOf}
+use Rattle.system.specs.Figures.{lineLength, activeOffset, systemOf}
 use Rattle.system.specs.Walk.{walkRefusal, standingRefusal, lineWords, dueIn}
 use Rattle.system.specs.Judgement.{refusedAt, acceptedAt, movedAt}
-use Rattle.system.proofs.Laws.{line-is-parts, accepted-good, accepted-stood, moved-advanced, judgement-accepted, judgement-refused, judgement-number}
+use Rattle.system.proofs.Laws.{line-is-parts, due-system, accepted-good, accepted-stood, moved-advanced, judgement-accepted, judgement-refused, judgement-number}
 use Rattle.system.proofs.Theorems.{standing-exact, standing-decides}
-use Rattle.line.specs.Fault.{wordRefusal}
-use Rattle.line.specs.Samples.{activeLength}
+use Rattle.line.specs.Fault.{betweenOffset, wordRefusal, countsOf}
+use Rattle.line.specs.Samples.{activeLength, packetsOf}
 use Rattle.line.proofs.Theorems.{words-exact, words-decide}
-use Rattle.reader.specs.Judge.{lineRefusal, reportOf, lineJudged, judgeRefusal, activeOf}
+use Rattle.reader.specs.Judge.{lineRefusal, reportOf, lineJudged, judgeRefusal, judgedOf, activeOf, betweenPacketsOf, activePacketsOf}
 use Rattle.reader.specs.Refusals.{lineRefusals}
+use Rattle.reader.proofs.Parts.{counts-within}
 
 module _ (given due : ℕ) (w : Walk) (words : List ℕ) where
   abbrev pub answer : Refusal
@@ -69,22 +71,22 @@ module _ (given due : ℕ) (w : Walk) (words : List ℕ) where
   -- ---- the judgement
   pub judged-refused : (r : Refusal) → answer ≡ r → (r .number ≡ 0 → ⊥) → judged ≡ refusedAt w r
   unfolding lineJudged
-  judged-refused r e n = rw e (judgement-refused r w _ _ n)
+  judged-refused r e n = rw e (judgement-refused r w _ _ _ n)
 
-  pub judged-accepted : answer .number ≡ 0 → judged ≡ acceptedAt w (dueIn w words) (reportOf (dueIn w words) words)
+  pub judged-accepted : answer .number ≡ 0 → judged ≡ acceptedAt w (dueIn w words) (reportOf (dueIn w words) words) (countsOf (dueIn w words) words)
   unfolding lineJudged
-  judged-accepted e = judgement-accepted answer w _ _ e
+  judged-accepted e = judgement-accepted answer w _ _ _ e
 
   -- with room for one more, as the code has it
-  pub judged-moved : answer .number ≡ 0 → judged ≡ movedAt w (dueIn w words) (reportOf (dueIn w words) words)
+  pub judged-moved : answer .number ≡ 0 → judged ≡ movedAt w (dueIn w words) (reportOf (dueIn w words) words) (countsOf (dueIn w words) words)
   judged-moved e =
       judged-accepted e
-      ∙ ap (λ (v : Walk). record { number = 0; place = 0; report = reportOf (dueIn w words) words; walk = v })
+      ∙ ap (λ (v : Walk). record { number = 0; place = 0; report = reportOf (dueIn w words) words; walk = v; packets = countsOf (dueIn w words) words })
       (sym (moved-advanced w (dueIn w words) _ (accepted-good w (accepted e .walk))))
 
   pub number-judged : judged .number ≡ answer .number
   unfolding lineJudged
-  number-judged = judgement-number answer w _ _
+  number-judged = judgement-number answer w _ _ _
 
   -- its number and place are those of the refusal, or both 0
   pub judged-as-refused : record { number = judged .number; place = judged .place } ≡ answer
@@ -121,3 +123,39 @@ module _ (w : Walk) (words : List ℕ) where
   pub active-accepted : judgeRefusal w words .number ≡ 0 → activeOf w words ≡ take activeLength (drop (activeOffset (systemOf (w .system))) words)
   unfolding activeOf
   active-accepted e = simp (eq-eqb _ _ e)
+
+-- ---- the packets
+module _ (w : Walk) (words : List ℕ) where
+  -- none of a refused line
+  module _ (n : judgeRefusal w words .number ≡ 0 → ⊥) where
+    pub between-packets-refused : betweenPacketsOf w words ≡ []
+    unfolding betweenPacketsOf
+    between-packets-refused = simp (ne-eqb _ _ n)
+
+    pub active-packets-refused : activePacketsOf w words ≡ []
+    unfolding activePacketsOf
+    active-packets-refused = simp (ne-eqb _ _ n)
+
+  -- of an accepted line the first words of each space, as many as the judgement tells
+  module _ (e : judgeRefusal w words .number ≡ 0) where
+    counts-judged : judgedOf w words .packets ≡ countsOf (dueIn w words) words
+    counts-judged = ap (λ (j : Judgement). j .packets) (judged-accepted (length words) (lineWords w) w words e)
+
+    pub between-packets-accepted : betweenPacketsOf w words ≡ take (judgedOf w words .packets .between) (drop betweenOffset words)
+    unfolding betweenPacketsOf packetsOf
+    between-packets-accepted = simp (eq-eqb _ _ e) (rw counts-judged refl)
+
+    pub active-packets-accepted : activePacketsOf w words ≡ take (judgedOf w words .packets .active) (drop (activeOffset (systemOf (w .system))) words)
+    unfolding activePacketsOf packetsOf
+    active-packets-accepted = simp (eq-eqb _ _ e) (rw (counts-judged, due-system w (getD words 3 0)) refl)
+
+    -- which are words of the line
+    in-line : length words ≡ lineLength (dueIn w words .system)
+    in-line = accepted (length words) (lineWords w) w words e .size ∙ ap lineLength (sym (due-system w (getD words 3 0)))
+
+    pub between-packets-fit : betweenOffset + judgedOf w words .packets .between ≤ length words
+    between-packets-fit = rw counts-judged (omega (arith, in-line, counts-within (dueIn w words) (wordAt words) .0, line-is-parts (dueIn w words .system)))
+
+    pub active-packets-fit : activeOffset (systemOf (w .system)) + judgedOf w words .packets .active ≤ length words
+    active-packets-fit =
+        rw counts-judged (omega (arith, in-line, counts-within (dueIn w words) (wordAt words) .1, ap activeOffset (due-system w (getD words 3 0))))

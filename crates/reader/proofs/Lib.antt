@@ -1,5 +1,4 @@
-mod Tests
-mod Parts
+pub mod Parts
 pub mod Judged
 pub mod Taken
 pub mod Theorems

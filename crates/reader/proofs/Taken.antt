@@ -16,10 +16,12 @@ use Rattle.refusal.proofs.Tables.{keeps-none}
 use Rattle.timing.specs.declared.Report.{Report}
 use Rattle.system.specs.declared.due.Due.{Due}
 use Rattle.system.specs.declared.walk.Walk.{Walk}
+use Rattle.system.specs.declared.walk.PacketWords.{PacketWords}
 use Rattle.system.specs.declared.walk.Judgement.{Judgement}
 use Rattle.system.specs.Walk.{lineWords, dueIn}
 use Rattle.system.specs.Judgement.{refusedAt, judgementOf}
 use Rattle.system.proofs.Laws.{judgement-accepted, judgement-refused}
+use Rattle.line.specs.Fault.{countsOf}
 use Rattle.line.specs.Lengths.{bufferRefusal}
 use Rattle.line.specs.Samples.{Samples, samplesOf}
 use Rattle.line.specs.Fit.{Measured}
@@ -51,17 +53,17 @@ then-told w j table taking kept well =
     (λ f. ap told (then-refused w j taking (eqb-false _ _ f)))
 
 -- where taking answers the judge's refusal, and then one of its own, the two are judged by the first of these
-pub then-judged : (line room : Refusal) (w : Walk) (d : Due) (report : Report)
-    → thenTaken w (judgementOf line w d report) (orElse line room) ≡ judgementOf (orElse line room) w d report
-then-judged line room w d report =
+pub then-judged : (line room : Refusal) (w : Walk) (d : Due) (report : Report) (packets : PacketWords)
+    → thenTaken w (judgementOf line w d report packets) (orElse line room) ≡ judgementOf (orElse line room) w d report packets
+then-judged line room w d report packets =
     by-test (eqb (orElse line room .number) 0)
     (λ t.
     let z = eqb-true _ _ t in
-    then-taken w _ (orElse line room) z ∙ judgement-accepted line w d report (orElse-none line room z .0)
-    ∙ sym (judgement-accepted (orElse line room) w d report z))
+    then-taken w _ (orElse line room) z ∙ judgement-accepted line w d report packets (orElse-none line room z .0)
+    ∙ sym (judgement-accepted (orElse line room) w d report packets z))
     (λ f.
     let n = eqb-false _ _ f in
-    then-refused w _ (orElse line room) n ∙ sym (judgement-refused (orElse line room) w d report n))
+    then-refused w _ (orElse line room) n ∙ sym (judgement-refused (orElse line room) w d report packets n))
 
 -- ---- the buffers, where this is what refuses
 module _ (r : Refusal) (d : Due) (words : List ℕ) (b : Samples) where
@@ -113,6 +115,7 @@ module _ (w : Walk) (words : List ℕ) (b : Samples) where
       (λ t. then-taken w (judgedOf w words) (takeRefusal w words b) (measured-take m ∙ eqb-true _ _ t))
       (λ f. ap (λ (t : Turn). t .judgement) (refused-turn (eqb-false _ _ f)))
 
-  pub turn-judged : inTurn w words b .judgement ≡ judgementOf (takeRefusal w words b) w (dueIn w words) (reportOf (dueIn w words) words)
+  pub turn-judged : inTurn w words b .judgement
+      ≡ judgementOf (takeRefusal w words b) w (dueIn w words) (reportOf (dueIn w words) words) (countsOf (dueIn w words) words)
   unfolding lineJudged
-  turn-judged = then-judged (judgeRefusal w words) buffers w (dueIn w words) (reportOf (dueIn w words) words)
+  turn-judged = then-judged (judgeRefusal w words) buffers w (dueIn w words) (reportOf (dueIn w words) words) (countsOf (dueIn w words) words)

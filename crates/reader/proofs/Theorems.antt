@@ -1,4 +1,4 @@
--- The promises on judging a line and taking its samples, of the definitions that the calls' contracts cite. Assumes nothing.
+-- The promises on judging a line, taking its samples and lending its parts, of the definitions that the calls' contracts cite. Assumes nothing.
 use Prim.Native.Nat.{ℕ}
 use mathlib.Core.Path.{_≡_, refl, sym, ap, _∙_}
 use mathlib.Core.Bool.{true, false}
@@ -13,14 +13,15 @@ use Rattle.system.specs.declared.walk.Judgement.{Judgement}
 use Rattle.system.specs.Figures.{activeOffset, systemOf}
 use Rattle.system.specs.Walk.{lineWords, dueIn}
 use Rattle.system.specs.Judgement.{refusedAt, acceptedAt}
+use Rattle.line.specs.Fault.{betweenOffset, countsOf}
 use Rattle.line.specs.Samples.{Samples, activeLength, samplesOf}
 use Rattle.line.specs.Fit.{Measured}
 use Rattle.line.proofs.Theorems.{buffer-exact, buffer-decides}
-use Rattle.reader.specs.Judge.{reportOf, judgeRefusal, judgedOf, activeOf}
+use Rattle.reader.specs.Judge.{reportOf, judgeRefusal, judgedOf, activeOf, betweenPacketsOf, activePacketsOf}
 use Rattle.reader.specs.Take.{takeRefusal, takenOf, inTurn}
 use Rattle.reader.specs.Left.{Stands, Advances}
 use Rattle.reader.specs.Refusals.{judgeRefusals, takeRefusals}
-use Rattle.reader.proofs.Judged.{line-exact, line-decides, judged-as-refused, judged-refused, judged-accepted, number-judged, active-fits, active-refused, active-accepted}
+use Rattle.reader.proofs.Judged.{line-exact, line-decides, judged-as-refused, judged-refused, judged-accepted, number-judged, active-fits, active-refused, active-accepted, between-packets-refused, active-packets-refused, between-packets-accepted, active-packets-accepted, between-packets-fit, active-packets-fit}
 use Rattle.reader.proofs.Taken.{into-refused, into-blank, into-picture, told, measured-take, then-taken, then-refused, then-told, take-well}
 
 -- ---- Each refusal comes exactly when its condition holds and none earlier does.
@@ -50,12 +51,13 @@ module _ (w : Walk) (words : List ℕ) where
   pub judged-number : record { number = judgedOf w words .number; place = judgedOf w words .place } ≡ judgeRefusal w words
   judged-number = judged-as-refused (length words) (lineWords w) w words
 
-  -- A refused line leaves the walk standing, and is told as clean.
+  -- A refused line leaves the walk standing, is told as clean, and has no word told as a packet's.
   pub judge-refused-stands : (judgeRefusal w words .number ≡ 0 → ⊥) → judgedOf w words ≡ refusedAt w (judgeRefusal w words)
   judge-refused-stands n = judged-refused (length words) (lineWords w) w words _ refl n
 
-  -- An accepted line advances the walk by its report.
-  pub judge-accepted-advances : judgeRefusal w words .number ≡ 0 → judgedOf w words ≡ acceptedAt w (dueIn w words) (reportOf (dueIn w words) words)
+  -- An accepted line advances the walk by its report, and has the words of each space told that are packets.
+  pub judge-accepted-advances : judgeRefusal w words .number ≡ 0
+      → judgedOf w words ≡ acceptedAt w (dueIn w words) (reportOf (dueIn w words) words) (countsOf (dueIn w words) words)
   judge-accepted-advances z = judged-accepted (length words) (lineWords w) w words z
 
 -- ---- What taking writes.
@@ -82,11 +84,11 @@ module _ (w : Walk) (words : List ℕ) (b : Samples) where
       then-told w (judgedOf w words) _ (takeRefusal w words b) (take-call-exact w words b)
       (λ z. ap told (judge-accepted-advances w words (take-well w words b z)))
 
-  -- A refusal, of the judge or of taking, leaves the walk standing, is told as clean, and writes no buffer.
+  -- A refusal, of the judge or of taking, leaves the walk standing, is told as clean and without packets, and writes no buffer.
   pub refused-stands : (takeRefusal w words b .number ≡ 0 → ⊥) → Stands w b (inTurn w words b)
   refused-stands n =
       rw (then-refused w (judgedOf w words) (takeRefusal w words b) n)
-      (record { walk = refl; report = refl; buffers = take-refused-keeps w words b n })
+      (record { walk = refl; report = refl; packets = refl; buffers = take-refused-keeps w words b n })
 
   -- An accepted line advances the walk by its report, and gives its samples exactly where its V is 0.
   pub accepted-advances : takeRefusal w words b .number ≡ 0 → Advances w words b (inTurn w words b)
@@ -117,6 +119,33 @@ module _ (w : Walk) (words : List ℕ) where
         λ empty z. let whole = active-part (sym same ∙ z) .1 in let gone = ap length empty in omega arith,
       )
 
+-- ---- The packets.
+
+module _ (w : Walk) (words : List ℕ) where
+  -- Of an accepted line they are the first words of the space between EAV and SAV, as many as judging tells, ..
+  pub between-packets : judgeRefusal w words .number ≡ 0
+      → (betweenPacketsOf w words ≡ take (judgedOf w words .packets .between) (drop betweenOffset words))
+      × (length (betweenPacketsOf w words) ≡ judgedOf w words .packets .between)
+  between-packets z =
+      let part = between-packets-accepted w words z in
+      let fits = between-packets-fit w words z in
+      (part, rw part (simp (length-take, length-drop) (omega arith)))
+
+  -- .. and the first words of its active part.
+  pub active-packets : judgeRefusal w words .number ≡ 0
+      → (activePacketsOf w words ≡ take (judgedOf w words .packets .active) (drop (activeOffset (systemOf (w .system))) words))
+      × (length (activePacketsOf w words) ≡ judgedOf w words .packets .active)
+  active-packets z =
+      let part = active-packets-accepted w words z in
+      let fits = active-packets-fit w words z in
+      (part, rw part (simp (length-take, length-drop) (omega arith)))
+
+  -- Where judging refuses the line there are none.
+  pub packets-refused-empty : (judgedOf w words .number ≡ 0 → ⊥) → (betweenPacketsOf w words ≡ []) × (activePacketsOf w words ≡ [])
+  packets-refused-empty n =
+      let bad : (judgeRefusal w words .number ≡ 0 → ⊥) = λ z. n (number-judged (length words) (lineWords w) w words ∙ z) in
+      (between-packets-refused w words bad, active-packets-refused w words bad)
+
 -- ---- Two results that a contract allows for one input are the same.
 
 -- Of judging.
@@ -126,6 +155,13 @@ judge-one-result w words r s e f = e ∙ sym f
 -- Of the active part.
 pub active-one-result : (w : Walk) (words r s : List ℕ) → r ≡ activeOf w words → s ≡ activeOf w words → r ≡ s
 active-one-result w words r s e f = e ∙ sym f
+
+-- Of the packets.
+pub between-packets-one-result : (w : Walk) (words r s : List ℕ) → r ≡ betweenPacketsOf w words → s ≡ betweenPacketsOf w words → r ≡ s
+between-packets-one-result w words r s e f = e ∙ sym f
+
+pub active-packets-one-result : (w : Walk) (words r s : List ℕ) → r ≡ activePacketsOf w words → s ≡ activePacketsOf w words → r ≡ s
+active-packets-one-result w words r s e f = e ∙ sym f
 
 -- what taking may leave: the answer, and the buffers after it
 pub record Took (w : Walk) (words : List ℕ) (before : Samples) (r : Refusal) (after : Samples) : Type 0 where

@@ -7,7 +7,7 @@ use Rattle.refusal.specs.Answer.{firstOf}
 use Rattle.system.specs.declared.walk.Walk.{Walk}
 use Rattle.system.specs.Walk.{standingRefusal, lineWords, dueIn}
 use Rattle.system.specs.Judgement.{refusedAt, judgementOf}
-use Rattle.line.specs.Fault.{wordRefusal}
+use Rattle.line.specs.Fault.{wordRefusal, countsOf}
 use Rattle.line.specs.Lengths.{bufferRefusal}
 use Rattle.line.specs.Samples.{Samples}
 use Rattle.reader.specs.Judge.{reportOf}
@@ -22,7 +22,10 @@ former w words b =
     ∷ bufferRefusal (length (b .y)) (length (b .cb)) (length (b .cr))
     ∷ wordRefusal (dueIn w words) words
     ∷ []) in
-    record { judgement = judgementOf r w (dueIn w words) (reportOf (dueIn w words) words); buffers = takenInto r (dueIn w words) words b }
+    record {
+      judgement = judgementOf r w (dueIn w words) (reportOf (dueIn w words) words) (countsOf (dueIn w words) words);
+      buffers = takenInto r (dueIn w words) words b;
+    }
 
 -- a word is refused, nothing before the words is, and a buffer has a wrong length
 pub record Both (w : Walk) (words : List ℕ) (b : Samples) : Type 0 where

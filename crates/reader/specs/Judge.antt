@@ -1,4 +1,4 @@
--- Document 01: the whole answer of judging a line at a walk: number, place, report, walk; and its active part.
+-- Documents 01 and 02: the whole answer of judging a line at a walk: number, place, report, walk, packets; its active part, and its packets.
 use Prim.Native.Nat.{ℕ, _+_}
 use mathlib.Core.List.{List, [], _∷_}
 use mathlib.Core.Bool.{cond}
@@ -15,8 +15,8 @@ use Rattle.system.specs.declared.walk.Judgement.{Judgement}
 use Rattle.system.specs.Figures.{savOffset, activeOffset, systemOf}
 use Rattle.system.specs.Walk.{standingRefusal, lineWords, dueIn}
 use Rattle.system.specs.Judgement.{judgementOf}
-use Rattle.line.specs.Fault.{wordRefusal}
-use Rattle.line.specs.Samples.{activeLength}
+use Rattle.line.specs.Fault.{wordRefusal, countsOf}
+use Rattle.line.specs.Samples.{activeLength, packetsOf}
 
 -- "A line's report carries both codes' reports in one record."
 unfoldable pub reportOf : Due → List ℕ → Report
@@ -34,7 +34,8 @@ lineRefusal given due w words = firstOf (standingRefusal w given due ∷ wordRef
 -- and the whole judgement of it
 unfoldable pub lineJudged : ℕ → ℕ → Walk → List ℕ → Judgement
 unfolding lineRefusal
-lineJudged given due w words = judgementOf (lineRefusal given due w words) w (dueIn w words) (reportOf (dueIn w words) words)
+lineJudged given due w words =
+    judgementOf (lineRefusal given due w words) w (dueIn w words) (reportOf (dueIn w words) words) (countsOf (dueIn w words) words)
 
 -- of words
 abbrev pub judgeRefusal : Walk → List ℕ → Refusal
@@ -47,3 +48,11 @@ judgedOf w words = lineJudged (length words) (lineWords w) w words
 -- buffers play no role in this call": when judging refuses it
 unfoldable pub activeOf : Walk → List ℕ → List ℕ
 activeOf w words = cond (eqb (judgeRefusal w words .number) 0) (take activeLength (drop (activeOffset (systemOf (w .system))) words)) []
+
+-- "how many words of each space are packets": the part of the caller's own slice in which those of the space between stand, and of the active
+-- part; empty where judging refuses the line
+unfoldable pub betweenPacketsOf : Walk → List ℕ → List ℕ
+betweenPacketsOf w words = cond (eqb (judgeRefusal w words .number) 0) (packetsOf (dueIn w words) words .between) []
+
+unfoldable pub activePacketsOf : Walk → List ℕ → List ℕ
+activePacketsOf w words = cond (eqb (judgeRefusal w words .number) 0) (packetsOf (dueIn w words) words .active) []

@@ -7,11 +7,11 @@ ghost use Rattle.line.specs.Fault.{faultWhere};
 use line::LEAST_ONES;
 use line::MOST_ZEROS;
 use line::What;
-use line::reserved;
 use refusal::Number;
 use system::Due;
 use timing::Correction;
 use words::MOST_WORD;
+use words::reserved;
 
 // The number where the test says so, and 0 otherwise.
 fn number_if(test: bool, number: u32) -> u32

@@ -1,4 +1,4 @@
-// Reading lines at a walk: judging a line, taking its samples, and lending its active part.
+// Reading lines at a walk: judging a line, taking its samples, and lending its active part and its packets.
 mod fault;
 mod pass;
 mod samples;
@@ -9,9 +9,10 @@ ghost use lib.ListN.{length};
 ghost use Rattle.timing.specs.Code.{correctionOf};
 ghost use Rattle.timing.specs.Report.{codeReportOf};
 ghost use Rattle.system.specs.Figures.{lineLength};
-ghost use Rattle.reader.specs.Judge.{reportOf, judgedOf, activeOf};
+ghost use Rattle.reader.specs.Judge.{reportOf, judgedOf, activeOf, betweenPacketsOf, activePacketsOf};
 use crate::pass::first_fault;
 use line::ACTIVE_LENGTH;
+use line::BETWEEN_OFFSET;
 pub use samples::take;
 use system::Due;
 use system::Judgement;
@@ -38,7 +39,8 @@ fn report(d: Due, words: &[u16]) -> Report
     Report { eav, sav }
 }
 
-// Judges the line that a walk awaits: 1, 2, 4, 3 at place 0, then the lowest offset with a fault. A refusal leaves the walk standing.
+// Judges the line that a walk awaits: 1, 2, 4, 3 at place 0, then the lowest offset with a fault; and tells how many words of each space are
+// packets. A refusal leaves the walk standing.
 pub fn judge(walk: Walk, words: &[u16]) -> Judgement
     ensures { λ r. ⌜ r ≡ judgedOf walk (now (words .entry)) ⌝ }
 {
@@ -47,11 +49,13 @@ pub fn judge(walk: Walk, words: &[u16]) -> Judgement
         return Judgement::refused(walk, standing);
     }
     let due = walk.due(words[3]);
-    let fault = first_fault(due, words);
-    if fault.number != 0 {
-        return Judgement::refused(walk, fault);
+    let search = first_fault(due, words);
+    let refusal = search.refusal;
+    if refusal.number != 0 {
+        return Judgement::refused(walk, refusal);
     }
-    Judgement::accepted(walk, due, report(due, words))
+    let packets = search.packets;
+    Judgement::accepted(walk, due, report(due, words), packets)
 }
 
 // The active part of the line that a walk awaits: a part of the caller's own slice, empty where judging refuses the line.
@@ -63,5 +67,33 @@ pub fn active(walk: Walk, words: &[u16]) -> &[u16]
     }
     let start = system::system_of(walk.system).active_offset();
     let end = start + ACTIVE_LENGTH;
+    &words[start..end]
+}
+
+// The packets in the space between EAV and SAV of the line that a walk awaits: the part of the caller's own slice in which they stand, empty
+// where judging refuses the line.
+pub fn between_packets(walk: Walk, words: &[u16]) -> &[u16]
+    ensures { λ r. ⌜ now r ≡ betweenPacketsOf walk (now (words .entry)) ⌝ }
+{
+    let judgement = judge(walk, words);
+    if judgement.number != 0 {
+        return &words[0..0];
+    }
+    let packets = judgement.packets;
+    let end = BETWEEN_OFFSET + packets.between;
+    &words[BETWEEN_OFFSET..end]
+}
+
+// The packets in its active part, where V is 1.
+pub fn active_packets(walk: Walk, words: &[u16]) -> &[u16]
+    ensures { λ r. ⌜ now r ≡ activePacketsOf walk (now (words .entry)) ⌝ }
+{
+    let judgement = judge(walk, words);
+    if judgement.number != 0 {
+        return &words[0..0];
+    }
+    let packets = judgement.packets;
+    let start = system::system_of(walk.system).active_offset();
+    let end = start + packets.active;
     &words[start..end]
 }

@@ -1,35 +1,43 @@
-// A quick pass over a line that only says that nothing is wrong anywhere: no branch leaves its two long loops, so that they run on
-// vectors. Which fault comes first, where there is one, is the scan's to say.
+// A quick pass over a line that only says that nothing is wrong anywhere: no branch leaves its long loops, so that they run on vectors. Which
+// fault comes first, where there is one, is the scan's to say.
 ghost use mathlib.Core.Path.{_≡_};
 ghost use mathlib.Core.Bool.{true};
-ghost use Prim.Native.Nat.{ℕ, _+_, _*_, _<_, _≤_};
+ghost use Prim.Native.Nat.{_+_, _≤_};
 ghost use lib.ListN.{length, getD};
-ghost use Rattle.system.specs.Figures.{lineLength, activeOffset};
-ghost use Rattle.line.specs.Fault.{faultAt, wordRefusal};
+ghost use Rattle.words.specs.Passes.{Sampled};
+ghost use Rattle.packets.specs.Fault.{wordAt};
+ghost use Rattle.system.specs.Figures.{lineLength};
+ghost use Rattle.line.specs.Fault.{wordRefusal, countsOf};
 ghost use Rattle.line.specs.Samples.{activeLength};
-ghost use Rattle.line.specs.Parts.{CodeWell, Filled, Sampled, ActiveWell};
+ghost use Rattle.line.specs.Parts.{CodeWell};
+ghost use Rattle.reader.specs.Passes.{ActivePassed, Passed};
 use crate::fault::fault;
 use crate::scan::scan;
 use line::ACTIVE_LENGTH;
+use line::BETWEEN_OFFSET;
 use line::What;
-use line::reserved;
+use packets::judge_space;
 use refusal::Refusal;
 use system::Due;
-use words::MOST_WORD;
-use words::pair_of;
+use system::PacketWords;
+use words::reserved;
 
-// Whether all of these pairs of words from an offset are the fill that is due.
-fn filled(words: &[u16], from: usize, pairs: usize, even: u16, odd: u16) -> bool
-    requires { ⌜ from + 2 * pairs ≤ length (now words) ⌝ }
-    ensures { λ r. ⌜ (r ≡ true → Filled even odd (λ k. getD (now (words .entry)) (from + k) 0) pairs) ⌝ }
-{
-    let due = pair_of(even, odd);
-    let mut well = true;
-    for k in 0..pairs {
-        let i = from + 2 * k;
-        well = well & (pair_of(words[i], words[i + 1]) == due);
-    }
-    well
+// What the pass found: whether all is well, and then how many words are packets.
+struct Pass {
+    well: bool,
+    packets: PacketWords,
+}
+
+// The same of the active part alone.
+struct ActivePass {
+    well: bool,
+    packets: usize,
+}
+
+// What refuses a line's words, or number 0 and how many of them are packets.
+pub(crate) struct Search {
+    pub refusal: Refusal,
+    pub packets: PacketWords,
 }
 
 // Whether all words of an active part from an offset are samples.
@@ -57,51 +65,113 @@ fn code_well(words: &[u16], from: usize, fvh: u32) -> bool
     (first == 0) & (second == 0) & (third == 0) & (fourth == 0)
 }
 
-// Whether the active part is fill, on a line with V = 1, or samples.
-fn active_well(d: Due, words: &[u16]) -> bool
+// Whether the active part is well: a space, on a line with V = 1, or samples, of which none is a packet's.
+fn active_well(d: Due, words: &[u16]) -> ActivePass
     requires { ⌜ length (now words) ≡ lineLength (d .system) ⌝ }
-    ensures { λ r. ⌜ (r ≡ true → ActiveWell d (λ k. getD (now (words .entry)) (activeOffset (d .system) + k) 0)) ⌝ }
+    ensures { λ r. ⌜ (r .well ≡ true → ActivePassed d (wordAt (now (words .entry))) (r .packets)) ⌝ }
 {
     let system = d.system;
     let active = system.active_offset();
     if d.v {
-        return filled(words, active, ACTIVE_LENGTH / 2, d.fill.even, d.fill.odd);
+        let space = judge_space(words, active, words.len(), d.fill.even, d.fill.odd);
+        return ActivePass {
+            well: space.number == 0,
+            packets: space.packets,
+        };
     }
-    all_samples(words, active)
+    ActivePass {
+        well: all_samples(words, active),
+        packets: 0,
+    }
 }
 
-// True only of a line with no fault anywhere.
-fn all_well(d: Due, words: &[u16]) -> bool
+// Well only of a line with no fault anywhere.
+fn all_well(d: Due, words: &[u16]) -> Pass
     requires { ⌜ length (now words) ≡ lineLength (d .system) ⌝ }
-    ensures { λ r. ⌜ (r ≡ true → (i : ℕ) → i < lineLength (d .system) → faultAt d (now (words .entry)) i ≡ 0) ⌝ }
+    ensures { λ r. ⌜ (r .well ≡ true → Passed d (now (words .entry)) (r .packets)) ⌝ }
 {
-    if MOST_WORD < d.fill.even {
-        return false;
-    }
-    if MOST_WORD < d.fill.odd {
-        return false;
-    }
+    let nothing = Pass {
+        well: false,
+        packets: PacketWords::NONE,
+    };
     let system = d.system;
     let sav = system.sav_offset();
     if !code_well(words, 0, d.flags(true)) {
-        return false;
+        return nothing;
     }
-    if !filled(words, 4, (sav - 4) / 2, d.fill.even, d.fill.odd) {
-        return false;
+    let space = judge_space(words, BETWEEN_OFFSET, sav, d.fill.even, d.fill.odd);
+    if space.number != 0 {
+        return nothing;
     }
     if !code_well(words, sav, d.flags(false)) {
-        return false;
+        return nothing;
     }
-    active_well(d, words)
+    let active = active_well(d, words);
+    Pass {
+        well: active.well,
+        packets: PacketWords {
+            between: space.packets,
+            active: active.packets,
+        },
+    }
 }
 
-// The lowest offset with any fault: none where the quick pass finds all well, and otherwise what the scan finds.
-pub(crate) fn first_fault(d: Due, words: &[u16]) -> Refusal
+// How many words of each space are packets.
+fn counts(d: Due, words: &[u16]) -> PacketWords
     requires { ⌜ length (now words) ≡ lineLength (d .system) ⌝ }
-    ensures { λ r. ⌜ r ≡ wordRefusal d (now (words .entry)) ⌝ }
+    ensures { λ r. ⌜ r ≡ countsOf d (now (words .entry)) ⌝ }
 {
-    if all_well(d, words) {
-        return Refusal::NONE;
+    let system = d.system;
+    let space = judge_space(
+        words,
+        BETWEEN_OFFSET,
+        system.sav_offset(),
+        d.fill.even,
+        d.fill.odd,
+    );
+    if d.v {
+        let active = judge_space(
+            words,
+            system.active_offset(),
+            words.len(),
+            d.fill.even,
+            d.fill.odd,
+        );
+        return PacketWords {
+            between: space.packets,
+            active: active.packets,
+        };
     }
-    scan(d, words)
+    PacketWords {
+        between: space.packets,
+        active: 0,
+    }
+}
+
+// The lowest offset with any fault: none where the quick pass finds all well, and otherwise what the scan finds. Where there is none, the words
+// that are packets.
+pub(crate) fn first_fault(d: Due, words: &[u16]) -> Search
+    requires { ⌜ length (now words) ≡ lineLength (d .system) ⌝ }
+    ensures refusal { λ r. ⌜ r .refusal ≡ wordRefusal d (now (words .entry)) ⌝ }
+    ensures packets { λ r. ⌜ (r .refusal .number ≡ 0 → r .packets ≡ countsOf d (now (words .entry))) ⌝ }
+{
+    let pass = all_well(d, words);
+    if pass.well {
+        let packets = pass.packets;
+        return Search {
+            refusal: Refusal::NONE,
+            packets,
+        };
+    }
+    let refusal = scan(d, words);
+    if refusal.number != 0 {
+        return Search {
+            refusal,
+            packets: PacketWords::NONE,
+        };
+    }
+    Search {
+        refusal,
+        packets: counts(d, words),
+    }
 }

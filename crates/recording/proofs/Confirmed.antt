@@ -15,7 +15,7 @@ use Rattle.system.specs.declared.walk.Walk.{Walk}
 use Rattle.system.specs.Figures.{lineLength, systemOf}
 use Rattle.system.specs.Walk.{mostLines, walkRefusal, freshWalk, freshOf, advancedOf, lineBytes}
 use Rattle.system.proofs.Laws.{Good, accepted-good, good-accepted, fresh-accepted, named-accepted, walk-many-lines}
-use Rattle.line.specs.Samples.{Samples}
+use Rattle.line.specs.Samples.{Samples, Content}
 use Rattle.line.specs.Fit.{Measured}
 use Rattle.system.specs.declared.walk.Judgement.{Judgement}
 use Rattle.words.specs.Bytes.{wordsOf}
@@ -164,24 +164,24 @@ whole-lines (suc k) r (x ∷ bytes) l z =
       room = λ h. omega (arith, first .one-more, others .room (omega (arith, first .one-more, first .good .lines)));
     }
 
--- a recording has as many samples as lines
-as-many : {system line altered : ℕ} {ps : List Samples} {reads : List (List ℕ)} → Recording system line ps reads altered
-    → length ps ≡ length reads
+-- a recording tells as many lines as it has
+as-many : {system line altered : ℕ} {cs : List Content} {reads : List (List ℕ)} → Recording system line cs reads altered
+    → length cs ≡ length reads
 as-many end = refl
 as-many (next buffer written dam he hs more) = ap suc (as-many more)
 
 -- A, of the confirming program. A recording of at most 10,000,000 lines, each code altered in at most one bit, is confirmed, and repairs are
 -- exactly the altered codes.
-pub recording-confirmed : {bytes : List ℕ} {system start altered : ℕ} {ps : List Samples} {lines : List (List ℕ)}
+pub recording-confirmed : {bytes : List ℕ} {system start altered : ℕ} {cs : List Content} {lines : List (List ℕ)}
     → freshOf system start .number ≡ 0 → Holds bytes system start lines []
-    → Recording system start ps (map wordsOf lines) altered → length ps ≤ mostLines
+    → Recording system start cs (map wordsOf lines) altered → length cs ≤ mostLines
     → confirmedOf bytes
     ≡ record {
       system = system;
       start = start;
       number = 0;
       place = 0;
-      walk = record { system = system; line = lineAfterAll system start ps; lines = length ps; repairs = altered };
+      walk = record { system = system; line = lineAfterAll system start cs; lines = length cs; repairs = altered };
     }
 recording-confirmed {system = system} {start = start} hf holds rec hn =
     confirmed-plays hf holds
@@ -190,17 +190,17 @@ recording-confirmed {system = system} {start = start} hf holds rec hn =
 
 -- C, of the confirming program. Where a code has exactly two of the seven bits inverted and no earlier code more than one, the run ends
 -- with 8 in that code's place, and the walk stands behind the lines before, whatever follows the bad line.
-pub two-inverted-not-confirmed : {bytes rest : List ℕ} {system start altered place : ℕ} {ps : List Samples} {p : Samples}
+pub two-inverted-not-confirmed : {bytes rest : List ℕ} {system start altered place : ℕ} {cs : List Content} {c : Content}
     (lines : List (List ℕ)) (bad : List ℕ) → freshOf system start .number ≡ 0 → Holds bytes system start (lines ++ (bad ∷ [])) rest
-    → Recording system start ps (map wordsOf lines) altered → length ps < mostLines
-    → TwoInverted system (lineAfterAll system start ps) p (wordsOf bad) place
+    → Recording system start cs (map wordsOf lines) altered → length cs < mostLines
+    → TwoInverted system (lineAfterAll system start cs) c (wordsOf bad) place
     → confirmedOf bytes
     ≡ record {
       system = system;
       start = start;
       number = 8;
       place = place;
-      walk = record { system = system; line = lineAfterAll system start ps; lines = length ps; repairs = altered };
+      walk = record { system = system; line = lineAfterAll system start cs; lines = length cs; repairs = altered };
     }
 two-inverted-not-confirmed {rest = rest} {system = system} {start = start} lines bad hf holds rec hn two =
     confirmed-plays hf holds
@@ -214,8 +214,8 @@ two-inverted-not-confirmed {rest = rest} {system = system} {start = start} lines
 pub confirmed-is-recording : (bytes : List ℕ) → confirmedOf bytes .number ≡ 0
     → (freshOf (headerSystem bytes) (headerStart bytes) .number ≡ 0)
     × (lines : List (List ℕ)) × Holds bytes (headerSystem bytes) (headerStart bytes) lines []
-    × (ps : List Samples) × Recording (headerSystem bytes) (headerStart bytes) ps (map wordsOf lines) (confirmedOf bytes .walk .repairs)
-    × (length ps ≤ mostLines)
+    × (cs : List Content) × Recording (headerSystem bytes) (headerStart bytes) cs (map wordsOf lines) (confirmedOf bytes .walk .repairs)
+    × (length cs ≤ mostLines)
 unfolding confirmedOf begunOf
 confirmed-is-recording bytes z =
     let system = headerSystem bytes in
@@ -235,34 +235,34 @@ confirmed-is-recording bytes z =
     (hf, lines, holds, read .0, rec, omega (arith, as-many rec, length-map lines wordsOf, cut .room (omega arith)))
 
 -- ---- bytes behind a recording
-module _ {bytes rest : List ℕ} {system start altered : ℕ} {ps : List Samples} {lines : List (List ℕ)} (hf : freshOf system start .number ≡ 0)
-    (holds : Holds bytes system start lines rest) (rec : Recording system start ps (map wordsOf lines) altered) where
+module _ {bytes rest : List ℕ} {system start altered : ℕ} {cs : List Content} {lines : List (List ℕ)} (hf : freshOf system start .number ≡ 0)
+    (holds : Holds bytes system start lines rest) (rec : Recording system start cs (map wordsOf lines) altered) where
   -- the walk behind it
   abbrev reached : Walk
-  reached = record { system = system; line = lineAfterAll system start ps; lines = length ps; repairs = altered }
+  reached = record { system = system; line = lineAfterAll system start cs; lines = length cs; repairs = altered }
 
   -- the run goes on there with the bytes that are left
-  left : length ps ≤ mostLines → confirmedOf bytes ≡ bodyOf (goingOn system start reached) rest
+  left : length cs ≤ mostLines → confirmedOf bytes ≡ bodyOf (goingOn system start reached) rest
   left hn =
       confirmed-plays hf holds
       ∙ ap (λ (p : Played). bodyOf (runAfter system start p) rest) (recording-reads-back hf rec hn blank blank-measured)
 
-  pub trailing-refused : length ps < mostLines → 0 < length rest → length rest < lineBytes reached
+  pub trailing-refused : length cs < mostLines → 0 < length rest → length rest < lineBytes reached
       → confirmedOf bytes ≡ record { system = system; start = start; walk = reached; number = 3; place = 0 }
   unfolding judgedNext
   trailing-refused hn some short =
       let f = fresh system start hf in
-      let good : Good reached = record { system = f .a-system; line = line-after-in system start ps (f .a-line); lines = hn; repairs = few rec } in
+      let good : Good reached = record { system = f .a-system; line = line-after-in system start cs (f .a-line); lines = hn; repairs = few rec } in
       let stands : walkRefusal reached .number ≡ 0 = same-number (good-accepted reached good) in
       left (omega arith)
       ∙ body-last (goingOn system start reached) rest refl (omega arith) (omega arith)
       ∙ ap (λ (j : Judgement). runAfter system start (stoppedBy j)) (judged-count reached rest stands (λ e. omega arith))
 
-  pub past-limit-refused : length ps ≡ mostLines → 0 < length rest
+  pub past-limit-refused : length cs ≡ mostLines → 0 < length rest
       → confirmedOf bytes ≡ record { system = system; start = start; walk = reached; number = 4; place = 0 }
   past-limit-refused hn some =
       let f = fresh system start hf in
-      let four = walk-many-lines reached (same-number (named-accepted system (reached .line) (f .a-system) (line-after-in system start ps (f .a-line)))) (omega arith) in
+      let four = walk-many-lines reached (same-number (named-accepted system (reached .line) (f .a-system) (line-after-in system start cs (f .a-line)))) (omega arith) in
       let barred : walkRefusal reached .number ≡ 0 → ⊥ = λ z. omega (arith, same-number four) in
       left (omega arith)
       ∙ body-barred (goingOn system start reached) rest refl (omega arith) barred

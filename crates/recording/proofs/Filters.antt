@@ -17,8 +17,9 @@ use Rattle.intake.proofs.Pieces.{pieces-of-whole, pieces-joined}
 use Rattle.system.specs.declared.walk.Walk.{Walk}
 use Rattle.system.specs.Figures.{lineLength, systemOf}
 use Rattle.system.specs.Walk.{mostLines, freshOf, lineBytes}
+use Rattle.system.specs.Judgement.{noPackets}
 use Rattle.system.proofs.Laws.{fresh-accepted, judgement-well}
-use Rattle.line.specs.Samples.{Samples}
+use Rattle.line.specs.Samples.{Packets, Content}
 use Rattle.system.specs.declared.walk.Judgement.{Judgement}
 use Rattle.words.specs.Bytes.{wordsOf, bytesOf}
 use Rattle.words.proofs.Bytes.{bytes-length, word-at, words-back}
@@ -51,7 +52,7 @@ step-judged r piece z =
     (ap (λ (j : Judgement). record { system = r .system; start = r .start; walk = j .walk; number = j .number; place = j .place })
     (extract-as-judged (r .walk) piece))
 
-step-ended : (r : Run) (piece : List ℕ) → (r .number ≡ 0 → ⊥) → stepped r piece ≡ record { run = r; gives = false }
+step-ended : (r : Run) (piece : List ℕ) → (r .number ≡ 0 → ⊥) → stepped r piece ≡ record { run = r; gives = false; packets = noPackets }
 unfolding extractionOf
 step-ended r piece n = simp (ne-eqb _ _ n)
 
@@ -89,7 +90,7 @@ module _ (system start : ℕ) where
   unfolding lineJudged
   goes-on w line z =
       let same = extract-as-judged w line in
-      let e = same ∙ judgement-well _ w _ _ (ap (λ (j : Judgement). j .number) (sym same) ∙ z) in
+      let e = same ∙ judgement-well _ w _ _ _ (ap (λ (j : Judgement). j .number) (sym same) ∙ z) in
       ap (λ (j : Judgement). record { system = system; start = start; walk = j .walk; number = j .number; place = j .place }) e
       ∙ sym (ap (λ (j : Judgement). going (j .walk)) e)
 
@@ -167,28 +168,28 @@ programme-recorded system start most programme hf bytes end =
     let sound : Sound system (begunTape system start most) = rw (f .walk) (record { same = refl; a-system = f .a-system; a-line = f .a-line }) in
     let room = lineBytes (begunTape system start most .walk) in
     let split = rows-taped system room (allPieces rowLength programme) (begunTape system start most) sound (byte-pieces rowLength (length programme) programme bytes) end in
-    subst (Recordings system _) (sym (split .all)) (filters.one start (split .here) _ hf (split .recorded) (split .behind))
+    subst (Recordings system _) (sym (split .all)) (filters.one start (split .here) _ (split .packets) hf (split .recorded) (split .behind))
 
 -- ---- and back
 -- a copy of a recording that took rows gives those rows
-copy-rows : {system start altered : ℕ} (rows lines copy : List (List ℕ)) (ps : List Samples) (file : List ℕ) → freshOf system start .number ≡ 0
-    → Recorded (freshOf system start .walk) rows lines → Recording system start ps (map wordsOf lines) 0
-    → Recording system start ps (map wordsOf copy) altered → length ps ≤ mostLines → Holds file system start copy []
+copy-rows : {system start altered : ℕ} (rows lines copy : List (List ℕ)) (ks : List Packets) (cs : List Content) (file : List ℕ)
+    → freshOf system start .number ≡ 0
+    → Recorded (freshOf system start .walk) rows ks lines → Recording system start cs (map wordsOf lines) 0
+    → Recording system start cs (map wordsOf copy) altered → length cs ≤ mostLines → Holds file system start copy []
     → extractedProgramme file ≡ rows
-copy-rows {system} {start} {altered} rows lines copy ps file hf made same damaged few holds =
-    let told = rows-back system start rows lines hf made in
-    let taken = rows-recorded system start rows lines hf made in
+copy-rows {system} {start} {altered} rows lines copy ks cs file hf made same damaged few holds =
+    let told = rows-back system start rows lines ks hf made in
     let back = ap (λ (x : Extracted). x .rows) (told .3 0 lines (told .1) (told .2)) in
-    let once = ap (λ (x : Extracted). x .rows) (recording-extracted system start 0 ps lines hf same few (told .2)) in
-    let again = ap (λ (x : Extracted). x .rows) (recording-extracted system start altered ps copy hf damaged few (holds .whole)) in
+    let once = ap (λ (x : Extracted). x .rows) (recording-extracted system start 0 cs lines hf same few (told .2)) in
+    let again = ap (λ (x : Extracted). x .rows) (recording-extracted system start altered cs copy hf damaged few (holds .whole)) in
     file-rows hf holds ∙ again ∙ sym once ∙ back
 
 copies-back : {system : ℕ} {recordings : List (ℕ × List (List ℕ))} {rows files : List (List ℕ)} → Recordings system recordings rows
     → Copies system recordings files → flatten (map extractedProgramme files) ≡ rows
 unfolding flatten
 copies-back filters.Recordings.none filters.Copies.none = refl
-copies-back (filters.Recordings.one start rows lines hf made rest) (filters.Copies.one {copy = copy} ps file same damaged few holds more) =
-    ap₂ (λ (a b : List (List ℕ)). a ++ b) (copy-rows rows lines copy ps file hf made same damaged few holds) (copies-back rest more)
+copies-back (filters.Recordings.one start rows lines ks hf made rest) (filters.Copies.one {copy = copy} cs file same damaged few holds more) =
+    ap₂ (λ (a b : List (List ℕ)). a ++ b) (copy-rows rows lines copy ks cs file hf made same damaged few holds) (copies-back rest more)
 
 -- ---- what was written are copies of themselves
 module _ (system start : ℕ) (body : List ℕ) where
@@ -217,9 +218,9 @@ written-holds system start lines whole =
 copies-of : {system : ℕ} {recordings : List (ℕ × List (List ℕ))} {rows : List (List ℕ)} → Recordings system recordings rows
     → Copies system recordings (map (fileOf system) recordings)
 copies-of filters.Recordings.none = filters.Copies.none
-copies-of {system} (filters.Recordings.one start rows lines hf made rest) =
-    let told = rows-recorded system start rows lines hf made in
-    filters.Copies.one (told .0) (fileOf system (start, lines)) (told .1) (told .1) (told .3) (written-holds system start lines (told .4)) (copies-of rest)
+copies-of {system} (filters.Recordings.one start rows lines ks hf made rest) =
+    let told = rows-recorded system start rows lines ks hf made in
+    filters.Copies.one (told .0) (fileOf system (start, lines)) (told .1) (told .1) (told .4) (written-holds system start lines (told .5)) (copies-of rest)
 
 pub written-copies : WrittenCopies
 written-copies system recordings rows made = copies-of made

@@ -20,12 +20,12 @@ use Rattle.system.specs.Due.{dueOf, flagsOf}
 use Rattle.system.specs.Walk.{lineWords, advancedOf, dueIn}
 use Rattle.system.specs.Judgement.{acceptedAt, refusedAt}
 use Rattle.system.proofs.Laws.{Good, line-is-parts, due-system}
-use Rattle.line.specs.Fault.{wordRefusal}
-use Rattle.line.specs.Samples.{Samples, lineOf}
+use Rattle.line.specs.Fault.{wordRefusal, countsOf}
+use Rattle.line.specs.Samples.{Samples, Packets, Content, lineOf, packetsOf}
 use Rattle.line.specs.Fit.{Measured, Fit}
 use Rattle.line.specs.Parts.{Proper}
 use Rattle.line.specs.Damage.{DamagedUpTo, toldOf}
-use Rattle.line.proofs.Damaged.{read-length, damaged-accepted, eav-found, sav-found, eav-counted, sav-counted, eav-told, sav-told, samples-unchanged}
+use Rattle.line.proofs.Damaged.{read-length, damaged-accepted, eav-found, sav-found, eav-counted, sav-counted, eav-told, sav-told, samples-unchanged, counts-read, packets-unchanged}
 use Rattle.reader.specs.Judge.{reportOf}
 use Rattle.writer.specs.Write.{writeRefusal, lineAfter}
 use Rattle.writer.proofs.Theorems.{written-samples-fit, accepted-writes-the-line}
@@ -37,13 +37,13 @@ abbrev pub at : ℕ → ℕ → ℕ → ℕ → Walk
 at system line lines repairs = record { system = system; line = line; lines = lines; repairs = repairs }
 
 -- ---- a line in which this is due, as it is read
-module _ (w : Walk) (good : Good w) (b : Samples) (m : Measured b) (d : Due) (ok : Proper (d .fill)) (p : Samples) (fits : Fit d p) (read : List ℕ)
-    (e s end-at : ℕ) (is-due : dueIn w read ≡ d) (low : end-at ≤ lineLength (d .system)) (dam : DamagedUpTo end-at d (lineOf d p) read e s) where
+module _ (w : Walk) (good : Good w) (b : Samples) (m : Measured b) (d : Due) (ok : Proper (d .fill)) (c : Content) (fits : Fit d c) (read : List ℕ)
+    (e s end-at : ℕ) (is-due : dueIn w read ≡ d) (low : end-at ≤ lineLength (d .system)) (dam : DamagedUpTo end-at d (lineOf d c) read e s) where
   of-system : d .system ≡ systemOf (w .system)
   of-system = ap (λ (x : Due). x .system) (sym is-due) ∙ due-system w (getD read 3 0)
 
   read-size : length read ≡ lineWords w
-  read-size = read-length d ok p fits read e s end-at low dam ∙ ap lineLength of-system
+  read-size = read-length d ok c fits read e s end-at low dam ∙ ap lineLength of-system
 
   -- struck in at most one bit of each code: accepted, each inverted bit counted, the samples back
   module _ (whole : end-at ≡ lineLength (d .system)) (he : e ≤ 1) (hs : s ≤ 1) where
@@ -55,30 +55,30 @@ module _ (w : Walk) (good : Good w) (b : Samples) (m : Measured b) (d : Due) (ok
         ≡ record { eav = toldOf (flagsOf d true) (getD read 3 0); sav = toldOf (flagsOf d false) (getD read (savOffset (d .system) + 3) 0) }
     unfolding reportOf
     due-reported =
-        let x = eav-told d ok p fits read e s end-at low dam (omega (arith, past-sav)) he in
-        let y = sav-told d ok p fits read e s end-at low dam past-sav hs in
+        let x = eav-told d ok c fits read e s end-at low dam (omega (arith, past-sav)) he in
+        let y = sav-told d ok c fits read e s end-at low dam past-sav hs in
         λ i. record { eav = x i; sav = y i }
 
     -- and nothing where none is inverted
     due-clean : e ≡ 0 → s ≡ 0 → reportOf d read ≡ cleanReport
     unfolding reportOf
     due-clean ze zs =
-        let x = ap codeReportOf (eav-found d ok p fits read e s end-at low dam (omega (arith, past-sav)) (omega arith) ∙ ap (found (flagsOf d true) (sevenOf (getD read 3 0))) ze) in
-        let y = ap codeReportOf (sav-found d ok p fits read e s end-at low dam past-sav (omega arith) ∙ ap (found (flagsOf d false) (sevenOf (getD read (savOffset (d .system) + 3) 0))) zs) in
+        let x = ap codeReportOf (eav-found d ok c fits read e s end-at low dam (omega (arith, past-sav)) (omega arith) ∙ ap (found (flagsOf d true) (sevenOf (getD read 3 0))) ze) in
+        let y = ap codeReportOf (sav-found d ok c fits read e s end-at low dam past-sav (omega arith) ∙ ap (found (flagsOf d false) (sevenOf (getD read (savOffset (d .system) + 3) 0))) zs) in
         λ i. record { eav = x i; sav = y i }
 
     counted : repairsOf (reportOf d read) ≡ e + s
     unfolding reportOf
     counted =
-        let x = eav-counted d ok p fits read e s end-at low dam (omega (arith, past-sav)) he in
-        let y = sav-counted d ok p fits read e s end-at low dam past-sav hs in
+        let x = eav-counted d ok c fits read e s end-at low dam (omega (arith, past-sav)) he in
+        let y = sav-counted d ok c fits read e s end-at low dam past-sav hs in
         omega arith
 
-    due-read : inTurn w read b .judgement ≡ acceptedAt w d (reportOf d read)
+    due-read : inTurn w read b .judgement ≡ acceptedAt w d (reportOf d read) (countsOf d read)
     due-read =
         accepted-answer w good b m read read-size
-        (ap (λ (x : Due). wordRefusal x read) is-due ∙ damaged-accepted d ok p fits read e s end-at low dam whole he hs)
-        ∙ ap (λ (x : Due). acceptedAt w x (reportOf x read)) is-due
+        (ap (λ (x : Due). wordRefusal x read) is-due ∙ damaged-accepted d ok c fits read e s end-at low dam whole he hs)
+        ∙ ap (λ (x : Due). acceptedAt w x (reportOf x read) (countsOf x read)) is-due
 
     due-accepted : inTurn w read b .judgement .number ≡ 0
     due-accepted = ap (λ (j : Judgement). j .number) due-read
@@ -91,25 +91,34 @@ module _ (w : Walk) (good : Good w) (b : Samples) (m : Measured b) (d : Due) (ok
         ∙ ap (λ (k : ℕ). at (w .system) (nextLine (systemOf (w .system)) (w .line)) (w .lines + 1) (w .repairs + k)) counted
 
     -- the samples are returned, where the line carries some
-    due-returned : d .v ≡ false → inTurn w read b .buffers ≡ p
+    due-returned : d .v ≡ false → inTurn w read b .buffers ≡ c .samples
     due-returned v =
         picture-buffers w b read due-accepted (ap (λ (x : Due). x .v) is-due ∙ v)
-        ∙ rw is-due (samples-unchanged d ok p fits read e s end-at low dam whole v)
+        ∙ rw is-due (samples-unchanged d ok c fits read e s end-at low dam whole v)
 
-    picture-kept : (rest : Played) → andThen (dueIn w read .v) (inTurn w read b .buffers) rest ≡ andThen (d .v) p rest
-    picture-kept rest =
-        ap (λ (x : Due). andThen (x .v) (inTurn w read b .buffers) rest) is-due
-        ∙ by-test (d .v) (λ v. simp v) (λ v. ap (λ (q : Samples). andThen (d .v) q rest) (due-returned v))
+    -- and so are the packets
+    due-packets : packetsOf d read ≡ c .packets
+    due-packets = packets-unchanged d ok c fits read e s end-at low dam whole
+
+    due-counts : countsOf d read ≡ record { between = length (c .packets .between); active = length (c .packets .active) }
+    due-counts = counts-read d ok c fits read e s end-at low dam whole
+
+    kept : (rest : Played)
+        → andThen (dueIn w read .v) (inTurn w read b .buffers) (packetsOf (dueIn w read) read) rest ≡ andThen (d .v) (c .samples) (c .packets) rest
+    kept rest =
+        ap (λ (x : Due). andThen (x .v) (inTurn w read b .buffers) (packetsOf x read) rest) is-due
+        ∙ ap (λ (k : Packets). andThen (d .v) (inTurn w read b .buffers) k rest) due-packets
+        ∙ by-test (d .v) (λ v. simp v) (λ v. ap (λ (q : Samples). andThen (d .v) q (c .packets) rest) (due-returned v))
 
     -- so playing goes on behind the line
     due-plays-on : (rest : List (List ℕ)) → play w b (read ∷ rest)
-        ≡ andThen (d .v) p
+        ≡ andThen (d .v) (c .samples) (c .packets)
         (play (at (w .system) (nextLine (systemOf (w .system)) (w .line)) (w .lines + 1) (w .repairs + (e + s))) (inTurn w read b .buffers) rest)
     unfolding play
     due-plays-on rest =
         simp (eq-eqb _ _ due-accepted)
-        (picture-kept (play (inTurn w read b .judgement .walk) (inTurn w read b .buffers) rest)
-        ∙ ap (λ (v : Walk). andThen (d .v) p (play v (inTurn w read b .buffers) rest)) due-walk)
+        (kept (play (inTurn w read b .judgement .walk) (inTurn w read b .buffers) rest)
+        ∙ ap (λ (v : Walk). andThen (d .v) (c .samples) (c .packets) (play v (inTurn w read b .buffers) rest)) due-walk)
 
   -- two bits of a code: refused with 8 there
   due-refused : (place : ℕ) → wordRefusal (dueIn w read) read ≡ record { number = 8; place = place }
@@ -122,18 +131,18 @@ unfolding dueOf
 proper system line = record { even = omega arith; odd = omega arith }
 
 -- ---- the line of a recording, as it is read: what is due in it is due in the line with its number
-module _ (w : Walk) (good : Good w) (b : Samples) (m : Measured b) (p : Samples) (buffer read : List ℕ) (e s end-at : ℕ)
-    (written : writeRefusal (w .system) (w .line) p (length buffer) .number ≡ 0)
+module _ (w : Walk) (good : Good w) (b : Samples) (m : Measured b) (c : Content) (buffer read : List ℕ) (e s end-at : ℕ)
+    (written : writeRefusal (w .system) (w .line) c (length buffer) .number ≡ 0)
     (low : end-at ≤ lineLength (systemOf (w .system)))
-    (dam : DamagedUpTo end-at (dueOf (systemOf (w .system)) (w .line)) (lineAfter (w .system) (w .line) p buffer) read e s) where
+    (dam : DamagedUpTo end-at (dueOf (systemOf (w .system)) (w .line)) (lineAfter (w .system) (w .line) c buffer) read e s) where
   abbrev pub due : Due
   due = dueOf (systemOf (w .system)) (w .line)
 
-  pub fit : Fit due p
-  fit = written-samples-fit (w .system) (w .line) p (length buffer) .0 written .fit
+  pub fit : Fit due c
+  fit = written-samples-fit (w .system) (w .line) c (length buffer) .0 written .fit
 
-  pub of-line : DamagedUpTo end-at due (lineOf due p) read e s
-  of-line = subst (λ (l : List ℕ). DamagedUpTo end-at due l read e s) (accepted-writes-the-line (w .system) (w .line) p buffer written .0) dam
+  pub of-line : DamagedUpTo end-at due (lineOf due c) read e s
+  of-line = subst (λ (l : List ℕ). DamagedUpTo end-at due l read e s) (accepted-writes-the-line (w .system) (w .line) c buffer written .0) dam
 
   in-line : end-at ≤ lineLength (due .system)
   unfolding dueOf
@@ -149,36 +158,45 @@ module _ (w : Walk) (good : Good w) (b : Samples) (m : Measured b) (p : Samples)
     unfolding dueOf
     reported =
         ap (λ (x : Due). reportOf x read) (due-at-walk w read)
-        ∙ due-reported w good b m due (proper (w .system) (w .line)) p fit read e s end-at (due-at-walk w read) in-line of-line ends he hs
+        ∙ due-reported w good b m due (proper (w .system) (w .line)) c fit read e s end-at (due-at-walk w read) in-line of-line ends he hs
 
     pub clean-reported : e ≡ 0 → s ≡ 0 → reportOf (dueIn w read) read ≡ cleanReport
     clean-reported ze zs =
         ap (λ (x : Due). reportOf x read) (due-at-walk w read)
-        ∙ due-clean w good b m due (proper (w .system) (w .line)) p fit read e s end-at (due-at-walk w read) in-line of-line ends he hs ze zs
+        ∙ due-clean w good b m due (proper (w .system) (w .line)) c fit read e s end-at (due-at-walk w read) in-line of-line ends he hs ze zs
 
-    pub line-read : inTurn w read b .judgement ≡ acceptedAt w due (reportOf (dueIn w read) read)
+    pub line-read : inTurn w read b .judgement
+        ≡ acceptedAt w due (reportOf (dueIn w read) read) (record { between = length (c .packets .between); active = length (c .packets .active) })
     line-read =
-        due-read w good b m due (proper (w .system) (w .line)) p fit read e s end-at (due-at-walk w read) in-line of-line ends he hs
-        ∙ ap (λ (x : Due). acceptedAt w due (reportOf x read)) (sym (due-at-walk w read))
+        due-read w good b m due (proper (w .system) (w .line)) c fit read e s end-at (due-at-walk w read) in-line of-line ends he hs
+        ∙ ap (acceptedAt w due (reportOf due read))
+        (due-counts w good b m due (proper (w .system) (w .line)) c fit read e s end-at (due-at-walk w read) in-line of-line ends he hs)
+        ∙ ap (λ (x : Due). acceptedAt w due (reportOf x read) (record { between = length (c .packets .between); active = length (c .packets .active) }))
+        (sym (due-at-walk w read))
 
     pub line-accepted : inTurn w read b .judgement .number ≡ 0
     line-accepted = ap (λ (j : Judgement). j .number) line-read
 
-    pub samples-returned : due .v ≡ false → inTurn w read b .buffers ≡ p
-    samples-returned = due-returned w good b m due (proper (w .system) (w .line)) p fit read e s end-at (due-at-walk w read) in-line of-line ends he hs
+    pub samples-returned : due .v ≡ false → inTurn w read b .buffers ≡ c .samples
+    samples-returned = due-returned w good b m due (proper (w .system) (w .line)) c fit read e s end-at (due-at-walk w read) in-line of-line ends he hs
+
+    pub packets-returned : packetsOf (dueIn w read) read ≡ c .packets
+    packets-returned =
+        ap (λ (x : Due). packetsOf x read) (due-at-walk w read)
+        ∙ due-packets w good b m due (proper (w .system) (w .line)) c fit read e s end-at (due-at-walk w read) in-line of-line ends he hs
 
     pub plays-on : (rest : List (List ℕ)) → play w b (read ∷ rest)
-        ≡ andThen (due .v) p
+        ≡ andThen (due .v) (c .samples) (c .packets)
         (play (at (w .system) (nextLine (systemOf (w .system)) (w .line)) (w .lines + 1) (w .repairs + (e + s))) (inTurn w read b .buffers) rest)
-    plays-on = due-plays-on w good b m due (proper (w .system) (w .line)) p fit read e s end-at (due-at-walk w read) in-line of-line ends he hs
+    plays-on = due-plays-on w good b m due (proper (w .system) (w .line)) c fit read e s end-at (due-at-walk w read) in-line of-line ends he hs
 
   pub refused-there : (place : ℕ) → wordRefusal (dueIn w read) read ≡ record { number = 8; place = place }
       → inTurn w read b .judgement ≡ refusedAt w (record { number = 8; place = place })
-  refused-there = due-refused w good b m due (proper (w .system) (w .line)) p fit read e s end-at (due-at-walk w read) in-line of-line
+  refused-there = due-refused w good b m due (proper (w .system) (w .line)) c fit read e s end-at (due-at-walk w read) in-line of-line
 
 -- a line that is refused with 8 stops the reading
 pub stops : (w : Walk) (b : Samples) (read : List ℕ) (place : ℕ) → inTurn w read b .judgement ≡ refusedAt w (record { number = 8; place = place })
-    → (rest : List (List ℕ)) → play w b (read ∷ rest) ≡ record { pictures = []; number = 8; place = place; walk = w }
+    → (rest : List (List ℕ)) → play w b (read ∷ rest) ≡ record { pictures = []; packets = []; number = 8; place = place; walk = w }
 unfolding play
 stops w b read place j rest =
     let n : inTurn w read b .judgement .number ≡ 8 = ap (λ (x : Judgement). x .number) j in

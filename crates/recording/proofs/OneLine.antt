@@ -14,7 +14,7 @@ use Rattle.system.specs.Due.{dueOf}
 use Rattle.system.specs.Walk.{lineWords, dueBy, dueIn}
 use Rattle.system.specs.Judgement.{acceptedAt, refusedAt}
 use Rattle.system.proofs.Laws.{Good, good-accepted, accepted-good, standing-accepted}
-use Rattle.line.specs.Fault.{wordRefusal}
+use Rattle.line.specs.Fault.{wordRefusal, countsOf}
 use Rattle.line.specs.Samples.{Samples, samplesOf}
 use Rattle.line.specs.Fit.{Measured}
 use Rattle.line.proofs.Places.{taken-measured}
@@ -39,7 +39,7 @@ module _ (w : Walk) (good : Good w) (b : Samples) (m : Measured b) (words : List
         (same-number (standing-accepted w (length words) (lineWords w) (same-number (good-accepted w good)) size))
 
     pub accepted-answer : wordRefusal (dueIn w words) words ≡ none
-        → inTurn w words b .judgement ≡ acceptedAt w (dueIn w words) (reportOf (dueIn w words) words)
+        → inTurn w words b .judgement ≡ acceptedAt w (dueIn w words) (reportOf (dueIn w words) words) (countsOf (dueIn w words) words)
     accepted-answer e = measured-turn w words b m ∙ judged-accepted (length words) (lineWords w) w words (same-number (only-words ∙ e))
 
     pub refused-answer : (r : Refusal) → (r .number ≡ 0 → ⊥) → wordRefusal (dueIn w words) words ≡ r → inTurn w words b .judgement ≡ refusedAt w r
@@ -56,7 +56,7 @@ module _ (w : Walk) (b : Samples) (words : List ℕ) (accepts : inTurn w words b
   left : Advances w words b (inTurn w words b)
   left = accepted-advances w words b (same-number (sym (turn-number w words b)) ∙ accepts)
 
-  pub accepted-judgement : inTurn w words b .judgement ≡ acceptedAt w (dueIn w words) (reportOf (dueIn w words) words)
+  pub accepted-judgement : inTurn w words b .judgement ≡ acceptedAt w (dueIn w words) (reportOf (dueIn w words) words) (countsOf (dueIn w words) words)
   accepted-judgement = left .answer
 
   pub picture-buffers : dueIn w words .v ≡ false → inTurn w words b .buffers ≡ samplesOf (dueIn w words) words

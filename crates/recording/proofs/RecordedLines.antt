@@ -1,5 +1,5 @@
--- What is recorded of rows, line by line: each line is one that the writer leaves for the row's samples, with nothing inverted, and each row
--- that was taken comes back from its samples. Assumes nothing.
+-- What is recorded of rows and packets, line by line: each line is one that the writer leaves for the row's samples and the packets, with
+-- nothing inverted, and each row that was taken comes back from its samples. Assumes nothing.
 use Prim.Native.Nat.{ℕ, _+_, _*_, _<_, _≤_}
 use mathlib.Core.Path.{_≡_, refl, sym, ap, ap₂, subst, _∙_}
 use mathlib.Core.List.{List, [], _∷_, map}
@@ -16,105 +16,107 @@ use Rattle.system.specs.Walk.{mostLines, advancedOf}
 use Rattle.system.proofs.Laws.{Good, accepted-good, judgement-number}
 use Rattle.system.specs.declared.due.Due.{Due}
 use Rattle.system.specs.Due.{dueOf}
-use Rattle.line.specs.Samples.{Samples, lineOf}
+use Rattle.line.specs.Samples.{Samples, Packets, Content, lineOf}
 use Rattle.line.specs.Fit.{Fit}
 use Rattle.line.specs.Damage.{Damaged}
-use Rattle.line.proofs.Damaged.{line-length}
+use Rattle.line.proofs.Writing.{line-length}
 use Rattle.line.proofs.Images.{undamaged}
 use Rattle.writer.specs.Write.{writeRefusal, lineAfter}
 use Rattle.writer.proofs.Places.{accepted-inside}
 use Rattle.writer.proofs.Theorems.{written-samples-fit, accepted-writes-the-line}
 use Rattle.words.specs.Bytes.{wordsOf, bytesOf}
 use Rattle.words.proofs.Bytes.{bytes-length, words-back}
-use Rattle.programme.specs.Record.{takesRow, rowSamples, recordRefusal, recordedOf, lineBytesOf, lineBytesAfter, Recordable}
+use Rattle.programme.specs.Record.{takesRow, rowSamples, rowContent, recordRefusal, recordedOf, lineBytesOf, lineBytesAfter, Recordable}
 use Rattle.line.proofs.Places.{part-measured}
 use Rattle.v210.specs.Row.{unpackedOf}
 use Rattle.programme.proofs.RecordTheorems.{record-accepted, recorded-walk}
-use Rattle.recording.specs.Recording.{Recording, end, next, pictures}
+use Rattle.recording.specs.Recording.{Recording, end, next, pictures, allPackets}
 use Rattle.recording.specs.Programme.{Recorded, rowOf, Whole, end as no-line, next as one-line}
 use Rattle.recording.proofs.Rows.{row-of-samples}
 
--- What is told of lines that were recorded of rows, from a walk on.
-pub record Told (w : Walk) (rows lines : List (List ℕ)) : Type 0 where
-  pub samples : List Samples
-  pub recording : Recording (w .system) (w .line) samples (map wordsOf lines) 0
-  pub taken : pictures (w .system) (w .line) samples ≡ map rowSamples rows
-  pub few : w .lines + length samples ≤ mostLines
+-- What is told of lines that were recorded of rows and packets, from a walk on.
+pub record Told (w : Walk) (rows : List (List ℕ)) (ks : List Packets) (lines : List (List ℕ)) : Type 0 where
+  pub contents : List Content
+  pub recording : Recording (w .system) (w .line) contents (map wordsOf lines) 0
+  pub taken : pictures (w .system) (w .line) contents ≡ map rowSamples rows
+  pub carried : allPackets contents ≡ ks
+  pub few : w .lines + length contents ≤ mostLines
   pub whole : Whole (w .system) lines
   pub back : map rowOf (map rowSamples rows) ≡ rows
 
 -- ---- one line that is accepted
-module _ (w : Walk) (row buffer : List ℕ) (accepted : recordedOf w row (length buffer) .number ≡ 0) where
+module _ (w : Walk) (row : List ℕ) (k : Packets) (buffer : List ℕ) (accepted : recordedOf w row k (length buffer) .number ≡ 0) where
   abbrev due : Due
   due = dueOf (systemOf (w .system)) (w .line)
 
-  none-refused : recordRefusal w row (length buffer) .number ≡ 0
+  none-refused : recordRefusal w row k (length buffer) .number ≡ 0
   unfolding recordedOf
-  none-refused = sym (judgement-number _ w _ cleanReport) ∙ accepted
+  none-refused = sym (judgement-number _ w _ cleanReport _) ∙ accepted
 
-  fit-to-record : Recordable w row (length buffer)
-  fit-to-record = record-accepted w row (length buffer) none-refused
+  fit-to-record : Recordable w row k (length buffer)
+  fit-to-record = record-accepted w row k (length buffer) none-refused
 
   good : Good w
   good = accepted-good w (fit-to-record .walk)
 
-  pub walk-after : recordedOf w row (length buffer) .walk ≡ advancedOf w due cleanReport
-  walk-after = recorded-walk w row buffer none-refused .0
+  pub walk-after : recordedOf w row k (length buffer) .walk ≡ advancedOf w due cleanReport
+  walk-after = recorded-walk w row k buffer none-refused .0
 
   -- the line that is left
-  pub line-left : lineBytesAfter w row buffer ≡ bytesOf (lineOf due (rowSamples row))
+  pub line-left : lineBytesAfter w row k buffer ≡ bytesOf (lineOf due (rowContent row k))
   unfolding lineBytesOf
-  line-left = recorded-walk w row buffer none-refused .1
+  line-left = recorded-walk w row k buffer none-refused .1
 
-  words-left : wordsOf (lineBytesAfter w row buffer) ≡ lineOf due (rowSamples row)
-  words-left = ap wordsOf line-left ∙ words-back (lineOf due (rowSamples row))
+  words-left : wordsOf (lineBytesAfter w row k buffer) ≡ lineOf due (rowContent row k)
+  words-left = ap wordsOf line-left ∙ words-back (lineOf due (rowContent row k))
 
-  words-length : length (lineOf due (rowSamples row)) ≡ lineLength (systemOf (w .system))
+  words-length : length (lineOf due (rowContent row k)) ≡ lineLength (systemOf (w .system))
   unfolding dueOf
-  words-length = line-length due (rowSamples row)
+  words-length = line-length due (rowContent row k)
 
-  bytes-left : length (lineBytesAfter w row buffer) ≡ 2 * lineLength (systemOf (w .system))
-  bytes-left = ap length line-left ∙ bytes-length (lineOf due (rowSamples row)) ∙ ap (λ (n : ℕ). 2 * n) words-length
+  bytes-left : length (lineBytesAfter w row k buffer) ≡ 2 * lineLength (systemOf (w .system))
+  bytes-left = ap length line-left ∙ bytes-length (lineOf due (rowContent row k)) ∙ ap (λ (n : ℕ). 2 * n) words-length
 
-  -- the writer takes the samples
-  fits : Fit due (rowSamples row)
+  -- the writer takes the samples and the packets
+  fits : Fit due (rowContent row k)
   unfolding takesRow
   fits =
       record {
         lengths = part-measured (unpackedOf row);
         range = λ v. accepted-inside (rowSamples row) due (fit-to-record .samples (ap not v)) v;
+        packets = fit-to-record .packets;
       }
 
-  written : writeRefusal (w .system) (w .line) (rowSamples row) (length (lineOf due (rowSamples row))) .number ≡ 0
+  written : writeRefusal (w .system) (w .line) (rowContent row k) (length (lineOf due (rowContent row k))) .number ≡ 0
   written =
-      written-samples-fit (w .system) (w .line) (rowSamples row) _ .1
+      written-samples-fit (w .system) (w .line) (rowContent row k) _ .1
       (record { a-system = good .system; a-line = good .line; words = words-length; fit = fits })
 
   -- and leaves that line
-  as-written : Damaged due (lineAfter (w .system) (w .line) (rowSamples row) (lineOf due (rowSamples row)))
-      (wordsOf (lineBytesAfter w row buffer)) 0 0
+  as-written : Damaged due (lineAfter (w .system) (w .line) (rowContent row k) (lineOf due (rowContent row k)))
+      (wordsOf (lineBytesAfter w row k buffer)) 0 0
   as-written =
-      let line = lineOf due (rowSamples row) in
-      let left = accepted-writes-the-line (w .system) (w .line) (rowSamples row) line written .0 in
-      subst (λ (l : List ℕ). Damaged due (lineAfter (w .system) (w .line) (rowSamples row) line) l 0 0) (sym words-left)
-      (subst (λ (l : List ℕ). Damaged due l line 0 0) (sym left) (undamaged due (rowSamples row)))
+      let line = lineOf due (rowContent row k) in
+      let left = accepted-writes-the-line (w .system) (w .line) (rowContent row k) line written .0 in
+      subst (λ (l : List ℕ). Damaged due (lineAfter (w .system) (w .line) (rowContent row k) line) l 0 0) (sym words-left)
+      (subst (λ (l : List ℕ). Damaged due l line 0 0) (sym left) (undamaged due (rowContent row k) (fit-to-record .packets)))
 
   -- a row that was taken comes back from its samples
   row-comes-back : ((i : ℕ) → i < length row → getD row i 0 < 256) → takesRow w ≡ true → rowOf (rowSamples row) ≡ row
   row-comes-back bytes t = row-of-samples row (fit-to-record .long t) bytes (fit-to-record .spare t)
 
   -- there was room for it
-  room : recordedOf w row (length buffer) .walk .lines ≤ mostLines
+  room : recordedOf w row k (length buffer) .walk .lines ≤ mostLines
   unfolding advancedOf
   room = omega (arith, ap (λ (v : Walk). v .lines) walk-after, good .lines)
 
   -- so it goes before the lines behind it
   module _ (bytes : (i : ℕ) → i < length row → getD row i 0 < 256) (rows lines : List (List ℕ))
-      (rest : Told (advancedOf w due cleanReport) rows lines) where
+      (ks : List Packets) (rest : Told (advancedOf w due cleanReport) rows ks lines) where
     abbrev taken-rows : List (List ℕ)
     taken-rows = cond (takesRow w) (row ∷ rows) rows
 
-    pictures-taken : pictures (w .system) (w .line) (rowSamples row ∷ rest .samples) ≡ map rowSamples taken-rows
+    pictures-taken : pictures (w .system) (w .line) (rowContent row k ∷ rest .contents) ≡ map rowSamples taken-rows
     unfolding takesRow advancedOf dueOf
     pictures-taken =
         by-test (due .v)
@@ -125,22 +127,32 @@ module _ (w : Walk) (row buffer : List ℕ) (accepted : recordedOf w row (length
         by-test (takesRow w)
         (λ t. simp t (ap₂ (λ (r : List ℕ) (rs : List (List ℕ)). r ∷ rs) (row-comes-back bytes t) (rest .back))) (λ f. simp f (rest .back))
 
-    line-more : Told w taken-rows (lineBytesAfter w row buffer ∷ lines)
+    line-more : Told w taken-rows (k ∷ ks) (lineBytesAfter w row k buffer ∷ lines)
     unfolding advancedOf dueOf
     line-more =
         record {
-          samples = rowSamples row ∷ rest .samples;
-          recording = next (lineOf due (rowSamples row)) written as-written (omega arith) (omega arith) (rest .recording);
+          contents = rowContent row k ∷ rest .contents;
+          recording = next (lineOf due (rowContent row k)) written as-written (omega arith) (omega arith) (rest .recording);
           taken = pictures-taken;
+          carried = ap (λ (l : List Packets). k ∷ l) (rest .carried);
           few = omega (arith, rest .few);
           whole = λ line at. ⊎-elim (λ e. ap length e ∙ bytes-left) (λ there. rest .whole line there) (List·Memᴰ·cases-cons at);
           back = rows-come-back;
         }
 
 -- ---- all lines
-pub recorded-told : {w : Walk} {rows lines : List (List ℕ)} → Recorded w rows lines → w .lines ≤ mostLines → Told w rows lines
+pub recorded-told : {w : Walk} {rows lines : List (List ℕ)} {ks : List Packets} → Recorded w rows ks lines → w .lines ≤ mostLines
+    → Told w rows ks lines
 recorded-told no-line h =
-    record { samples = []; recording = end; taken = refl; few = omega arith; whole = λ line at. absurd (List·Memᴰ·not-nil at); back = refl }
-recorded-told {w} (one-line {rows = rows} {lines = lines} row buffer bytes accepted more) h =
-    line-more w row buffer accepted bytes rows lines
-    (subst (λ (v : Walk). Told v rows lines) (walk-after w row buffer accepted) (recorded-told more (room w row buffer accepted)))
+    record {
+      contents = [];
+      recording = end;
+      taken = refl;
+      carried = refl;
+      few = omega arith;
+      whole = λ line at. absurd (List·Memᴰ·not-nil at);
+      back = refl;
+    }
+recorded-told {w} (one-line {rows = rows} {lines = lines} {ks = ks} row k buffer bytes accepted more) h =
+    line-more w row k buffer accepted bytes rows lines ks
+    (subst (λ (v : Walk). Told v rows ks lines) (walk-after w row k buffer accepted) (recorded-told more (room w row k buffer accepted)))

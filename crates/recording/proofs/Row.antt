@@ -9,7 +9,7 @@ use lib.Dec.{eqb}
 use lib.ListN.{drop}
 use borrow.Author.Tests.{eqb-true, eq-eqb}
 use Rattle.refusal.proofs.Cases.{and-true}
-use Rattle.line.specs.Samples.{Samples}
+use Rattle.line.specs.Samples.{Content}
 use Rattle.words.specs.Bytes.{wordsOf}
 use Rattle.confirmation.specs.declared.Run.{Run}
 use Rattle.confirmation.specs.Run.{headerLength, headerSystem, headerStart, begunOf, confirmedOf}
@@ -21,9 +21,9 @@ use Rattle.recording.specs.Row.{Row, behindHeaders, RecordingFollows, Re
 use Rattle.recording.proofs.Promise.{confirms, confirms-nothing-else}
 
 -- ---- one recording behind another, from the line that it awaits
-both : {system line k l : ℕ} {ps qs : List Samples} {reads more : List (List ℕ)} → Recording system line ps reads k
-    → Recording system (lineAfterAll system line ps) qs more l → Recording system line (ps ++ qs) (reads ++ more) (k + l)
-both {system} {line} {l = l} {qs = qs} {more = more} end r = subst (Recording system line qs more) (zero-more l) r
+both : {system line k l : ℕ} {cs es : List Content} {reads more : List (List ℕ)} → Recording system line cs reads k
+    → Recording system (lineAfterAll system line cs) es more l → Recording system line (cs ++ es) (reads ++ more) (k + l)
+both {system} {line} {l = l} {es = es} {more = more} end r = subst (Recording system line es more) (zero-more l) r
   where
     zero-more : (l : ℕ) → l ≡ 0 + l
     zero-more l = omega arith
@@ -43,27 +43,27 @@ record Lines (system line : ℕ) (bytes : List ℕ) : Type 0 where
   lines : List (List ℕ)
   all : bytes ≡ flatten lines
   whole : Whole system lines
-  ps : List Samples
+  cs : List Content
   altered : ℕ
-  recording : Recording system line ps (map wordsOf lines) altered
+  recording : Recording system line cs (map wordsOf lines) altered
 
 none : (system line : ℕ) → Lines system line []
 unfolding flatten
 none system line =
-    record { lines = []; all = refl; whole = λ one at. absurd (List·Memᴰ·not-nil at); ps = []; altered = 0; recording = end }
+    record { lines = []; all = refl; whole = λ one at. absurd (List·Memᴰ·not-nil at); cs = []; altered = 0; recording = end }
 
-joined : {system line k : ℕ} {ps : List Samples} {bytes more : List ℕ} (lines : List (List ℕ)) → bytes ≡ flatten lines
-    → Whole system lines → Recording system line ps (map wordsOf lines) k → Lines system (lineAfterAll system line ps) more
+joined : {system line k : ℕ} {cs : List Content} {bytes more : List ℕ} (lines : List (List ℕ)) → bytes ≡ flatten lines
+    → Whole system lines → Recording system line cs (map wordsOf lines) k → Lines system (lineAfterAll system line cs) more
     → Lines system line (bytes ++ more)
-joined {system} {line} {k} {ps} {bytes} {more} lines all whole recording rest =
+joined {system} {line} {k} {cs} {bytes} {more} lines all whole recording rest =
     record {
       lines = lines ++ rest .lines;
       all = ap (λ (b : List ℕ). b ++ more) all ∙ ap (λ (b : List ℕ). flatten lines ++ b) (rest .all) ∙ sym (flatten-both lines (rest .lines));
       whole = λ one at. ⊎-elim (whole one) (rest .whole one) (List·Memᴰ·append-cases lines at);
-      ps = ps ++ rest .ps;
+      cs = cs ++ rest .cs;
       altered = k + rest .altered;
       recording =
-          subst (λ (reads : List (List ℕ)). Recording system line (ps ++ rest .ps) reads (k + rest .altered))
+          subst (λ (reads : List (List ℕ)). Recording system line (cs ++ rest .cs) reads (k + rest .altered))
           (sym (map-append wordsOf lines (rest .lines))) (both recording (rest .recording));
     }
 
@@ -91,19 +91,19 @@ row-lines {before} (row.next {rest = rest} file z follows more) =
 
 pub recording-follows : RecordingFollows
 unfolding followsOn begunOf
-recording-follows first second system start altered ps lines hf holds recording few is-system is-start =
-    subst (λ (r : Run). followsOn r (begunOf second) ≡ true) (sym (confirms first system start altered ps lines hf holds recording few))
-    (simp (eq-eqb (headerSystem second) system is-system, eq-eqb (headerStart second) (lineAfterAll system start ps) is-start))
+recording-follows first second system start altered cs lines hf holds recording few is-system is-start =
+    subst (λ (r : Run). followsOn r (begunOf second) ≡ true) (sym (confirms first system start altered cs lines hf holds recording few))
+    (simp (eq-eqb (headerSystem second) system is-system, eq-eqb (headerStart second) (lineAfterAll system start cs) is-start))
 
 pub recordings-in-row : RecordingsInRow
-recordings-in-row first second rest system start altered later ps qs lines more hf holds recording few hf' holds' recording' few' files =
+recordings-in-row first second rest system start altered later cs es lines more hf holds recording few hf' holds' recording' few' files =
     row.next second
-    (ap (λ (r : Run). r .number) (confirms second system (lineAfterAll system start ps) later qs more hf' holds' recording' few'))
-    (recording-follows first second system start altered ps lines hf holds recording few (holds' .is-system) (holds' .is-start))
+    (ap (λ (r : Run). r .number) (confirms second system (lineAfterAll system start cs) later es more hf' holds' recording' few'))
+    (recording-follows first second system start altered cs lines hf holds recording few (holds' .is-system) (holds' .is-start))
     files
 
 pub row-is-one : RowIsOne
 unfolding flatten
 row-is-one first rest z files =
     let found = behind first (behindHeaders rest) z (row-lines files) in
-    (found .lines, found .all, found .whole, found .ps, found .altered, found .recording)
+    (found .lines, found .all, found .whole, found .cs, found .altered, found .recording)

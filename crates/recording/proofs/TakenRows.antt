@@ -11,23 +11,24 @@ use lib.ListN.{length, getD}
 use borrow.Author.Tests.{eq-eqb, le-ltb}
 use Rattle.refusal.specs.declared.Refusal.{Refusal}
 use Rattle.refusal.proofs.Cases.{by-test, and-true, not-true}
-use Rattle.refusal.proofs.Firsts.{first-none}
+use Rattle.refusal.proofs.Firsts.{first-none, same-number}
 use Rattle.system.specs.declared.walk.Walk.{Walk}
 use Rattle.system.specs.Figures.{lineLength, systemOf}
 use Rattle.system.specs.Walk.{mostLines, advancedOf}
 use Rattle.system.proofs.Laws.{Good, good-accepted}
 use Rattle.system.specs.declared.due.Due.{Due}
-use Rattle.line.specs.Fault.{leastSample, mostSample}
-use Rattle.line.specs.Samples.{activeLength, partSamples}
+use Rattle.line.specs.Samples.{nothingReady, activeLength, partSamples}
 use Rattle.system.specs.declared.walk.Judgement.{Judgement}
-use Rattle.words.specs.Words.{mostWord}
+use Rattle.words.specs.Words.{mostWord, leastSample, mostSample}
 use Rattle.writer.specs.Write.{outsideAt, sampleRefusal}
+use Rattle.writer.proofs.Laws.{packets-passed}
+use Rattle.writer.proofs.Theorems.{nothing-ready-refuses-nothing}
 use Rattle.v210.specs.Row.{packedOf}
 use Rattle.v210.proofs.Theorems.{packed-length, spare-none, packed-accepted, samples-back}
 use Rattle.programme.specs.declared.tape.Tape.{Tape}
 use Rattle.line.proofs.Places.{part-in-place}
-use Rattle.programme.specs.Record.{takesRow, endsFrame, Recordable}
-use Rattle.programme.specs.Tape.{turnsAt, turnedOf, tapedOf, endsAt, Wrote, onto, endOf, mostTurns, recordRows}
+use Rattle.programme.specs.Record.{dueAtWalk, takesRow, endsFrame, Recordable}
+use Rattle.programme.specs.Tape.{turnsAt, turnedOf, bareTaped, endsAt, Wrote, onto, endOf, mostTurns, recordRows}
 use Rattle.programme.proofs.Records.{recorded-accepted}
 use Rattle.programme.proofs.RecordTheorems.{recordable-accepted}
 use Rattle.recording.specs.Filters.{GoodRow, GoodRowMet}
@@ -87,22 +88,23 @@ module _ (system room : ℕ) (size : room ≡ 2 * lineLength (systemOf system)) 
           repairs = omega (arith, r .repairs);
         }
 
-    recordable : Recordable (t .walk) row room
+    recordable : Recordable (t .walk) row nothingReady room
     recordable =
         record {
           walk = ap (λ (x : Refusal). x .number) (good-accepted (t .walk) good);
           whole = size ∙ ap (λ (n : ℕ). 2 * lineLength (systemOf n)) (sym (r .sound .same));
           long = λ takes. given takes .long;
           spare = λ takes. given takes .spare;
+          packets = packets-passed (dueAtWalk (t .walk)) nothingReady (same-number (nothing-ready-refuses-nothing (dueAtWalk (t .walk))));
           samples = λ takes. given takes .samples _;
         }
 
-    accepted : tapedOf t row room .number ≡ 0
+    accepted : bareTaped t row room .number ≡ 0
     accepted =
         ap (λ (x : Tape). x .number) (taped t row room (r .number))
-        ∙ ap (λ (j : Judgement). j .number) (recorded-accepted (t .walk) row room (recordable-accepted (t .walk) row room recordable))
+        ∙ ap (λ (j : Judgement). j .number) (recorded-accepted (t .walk) row nothingReady room (recordable-accepted (t .walk) row nothingReady room recordable))
 
-    line-on : Ready (bound + 1) (tapedOf t row room)
+    line-on : Ready (bound + 1) (bareTaped t row room)
     unfolding advancedOf
     line-on =
         let w = advanced t row room (r .number) accepted in
@@ -134,7 +136,7 @@ module _ (system room : ℕ) (size : room ≡ 2 * lineLength (systemOf system)) 
       let turns = turnsAt t in
       let u = cond turns (turnedOf t) t in
       let here = there bound t r turns in
-      let v = tapedOf u row room in
+      let v = bareTaped u row room in
       let on = line-on bound u row here (omega arith) (λ takes. row-good) in
       ap (λ (x : Tape). x .number) (next-tape turns (t .walk .line) _)
       ∙ simp (eq-eqb (v .number) 0 (on .number))
@@ -152,7 +154,7 @@ module _ (system room : ℕ) (size : room ≡ 2 * lineLength (systemOf system)) 
       let frame = and-true (endsFrame (t .walk)) _ (and-true (eqb (t .number) 0) _ goes .1) .0 in
       let blank = not-true (takesRow (t .walk)) (and-true (ltb 0 (t .walk .lines) && ltb 1 (t .walk .line)) (not (takesRow (t .walk))) frame .1) in
       simp goes
-      (end-on k (bound + 1) (tapedOf t [] room) (omega arith)
+      (end-on k (bound + 1) (bareTaped t [] room) (omega arith)
       (line-on bound t [] r (omega arith) (λ takes. absurd (true≢false (sym takes ∙ blank))))))
       (λ stays. simp stays (r .number))
 

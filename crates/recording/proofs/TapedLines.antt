@@ -20,12 +20,12 @@ use Rattle.system.specs.Figures.{lineCount, vOf, isSystem, systemOf, nextLine}
 use Rattle.system.specs.Walk.{isLine, freshOf, advancedOf, lineBytes}
 use Rattle.system.proofs.Laws.{next-line-in, fresh-accepted, between-first, between-last, judgement-number}
 use Rattle.system.specs.Due.{dueOf}
-use Rattle.line.specs.Samples.{lineOf}
-use Rattle.line.proofs.Damaged.{line-length}
+use Rattle.line.specs.Samples.{Packets, nothingReady, lineOf}
+use Rattle.line.proofs.Writing.{line-length}
 use Rattle.words.proofs.Bytes.{bytes-length}
 use Rattle.programme.specs.declared.tape.Tape.{Tape}
-use Rattle.programme.specs.Record.{dueAtWalk, takesRow, endsFrame, rowSamples, recordedOf, lineBytesOf}
-use Rattle.programme.specs.Tape.{turnsAt, turnedOf, tapedOf, endsAt, Wrote, nothingMore, lineThen, nextFrom, onto, endOf, mostTurns, recordRows}
+use Rattle.programme.specs.Record.{dueAtWalk, takesRow, endsFrame, rowContent, recordedOf, lineBytesOf}
+use Rattle.programme.specs.Tape.{turnsAt, turnedOf, tapedOf, bareTaped, endsAt, Wrote, nothingMore, lineThen, nextFrom, onto, endOf, mostTurns, recordRows}
 use Rattle.programme.proofs.RecordTheorems.{record-accepted}
 use Rattle.recording.specs.Programme.{Recorded, end as no-line, next as one-line}
 use Rattle.recording.specs.Filters.{Recordings, none, one, AllBytes}
@@ -61,46 +61,47 @@ pub record Sound (system : ℕ) (t : Tape) : Type 0 where
 pub record Splits (system : ℕ) (t : Tape) (w : Wrote) (rows : List (List ℕ)) : Type 0 where
   pub here : List (List ℕ)
   pub later : List (List ℕ)
+  pub packets : List Packets
   pub all : rows ≡ here ++ later
-  pub recorded : Recorded (t .walk) here (w .lines)
+  pub recorded : Recorded (t .walk) here packets (w .lines)
   pub behind : Recordings system (w .more) later
 
 stopped : (system : ℕ) (t : Tape) → Splits system t (nothingMore t) []
-stopped system t = record { here = []; later = []; all = refl; recorded = no-line; behind = none }
+stopped system t = record { here = []; later = []; packets = []; all = refl; recorded = no-line; behind = none }
 
 -- ---- one line, by way of a buffer of so many bytes
 module _ (t : Tape) (row : List ℕ) (room : ℕ) where
   abbrev after : Tape
-  after = tapedOf t row room
+  after = bareTaped t row room
 
-  line-size : length (lineBytesOf (t .walk) row) ≡ lineBytes (t .walk)
+  line-size : length (lineBytesOf (t .walk) row nothingReady) ≡ lineBytes (t .walk)
   unfolding lineBytesOf dueOf
   line-size =
       let due = dueOf (systemOf (t .walk .system)) (t .walk .line) in
-      bytes-length (lineOf due (rowSamples row)) ∙ ap (λ (n : ℕ). 2 * n) (line-length due (rowSamples row))
+      bytes-length (lineOf due (rowContent row nothingReady)) ∙ ap (λ (n : ℕ). 2 * n) (line-length due (rowContent row nothingReady))
 
   module _ (z : t .number ≡ 0) where
-    pub taped : after ≡ record { walk = recordedOf (t .walk) row room .walk; most = t .most; number = recordedOf (t .walk) row room .number; place = recordedOf (t .walk) row room .place }
+    pub taped : after ≡ record { walk = recordedOf (t .walk) row nothingReady room .walk; most = t .most; number = recordedOf (t .walk) row nothingReady room .number; place = recordedOf (t .walk) row nothingReady room .place }
     unfolding tapedOf
     taped = simp (eq-eqb _ _ z)
 
     module _ (accepted : after .number ≡ 0) where
       -- where the line is accepted the buffer is one of its length
-      fits : room ≡ length (lineBytesOf (t .walk) row)
+      fits : room ≡ length (lineBytesOf (t .walk) row nothingReady)
       unfolding recordedOf
       fits =
           let number = sym (ap (λ (x : Tape). x .number) taped) ∙ accepted in
-          record-accepted (t .walk) row room (sym (judgement-number _ (t .walk) _ cleanReport) ∙ number) .whole ∙ sym line-size
+          record-accepted (t .walk) row nothingReady room (sym (judgement-number _ (t .walk) _ cleanReport _) ∙ number) .whole ∙ sym line-size
 
-      line-accepted : recordedOf (t .walk) row (length (lineBytesOf (t .walk) row)) .number ≡ 0
+      line-accepted : recordedOf (t .walk) row nothingReady (length (lineBytesOf (t .walk) row nothingReady)) .number ≡ 0
       line-accepted =
-          ap (λ (n : ℕ). recordedOf (t .walk) row n .number) (sym fits) ∙ sym (ap (λ (x : Tape). x .number) taped) ∙ accepted
+          ap (λ (n : ℕ). recordedOf (t .walk) row nothingReady n .number) (sym fits) ∙ sym (ap (λ (x : Tape). x .number) taped) ∙ accepted
 
-      walk-of : after .walk ≡ recordedOf (t .walk) row (length (lineBytesOf (t .walk) row)) .walk
-      walk-of = ap (λ (x : Tape). x .walk) taped ∙ ap (λ (n : ℕ). recordedOf (t .walk) row n .walk) fits
+      walk-of : after .walk ≡ recordedOf (t .walk) row nothingReady (length (lineBytesOf (t .walk) row nothingReady)) .walk
+      walk-of = ap (λ (x : Tape). x .walk) taped ∙ ap (λ (n : ℕ). recordedOf (t .walk) row nothingReady n .walk) fits
 
       pub advanced : after .walk ≡ advancedOf (t .walk) (dueAtWalk (t .walk)) cleanReport
-      advanced = walk-of ∙ walk-after (t .walk) row (lineBytesOf (t .walk) row) line-accepted
+      advanced = walk-of ∙ walk-after (t .walk) row nothingReady (lineBytesOf (t .walk) row nothingReady) line-accepted
 
       pub still-sound : (system : ℕ) → Sound system t → Sound system after
       unfolding advancedOf dueOf
@@ -109,18 +110,19 @@ module _ (t : Tape) (row : List ℕ) (room : ℕ) where
           (record { same = s .same; a-system = s .a-system; a-line = next-line-in (t .walk .system) (t .walk .line) (s .a-line) })
 
       line-before : (system : ℕ) (w : Wrote) (rows : List (List ℕ)) → AllBytes row → Splits system after w rows
-          → Splits system t (lineThen (lineBytesOf (t .walk) row) w) (cond (takesRow (t .walk)) (row ∷ rows) rows)
+          → Splits system t (lineThen (lineBytesOf (t .walk) row nothingReady) w) (cond (takesRow (t .walk)) (row ∷ rows) rows)
       unfolding lineBytesOf
       line-before system w rows bytes rest =
-          let buffer = lineBytesOf (t .walk) row in
-          let made = one-line row buffer bytes line-accepted (subst (λ (v : Walk). Recorded v (rest .here) (w .lines)) walk-of (rest .recorded)) in
+          let buffer = lineBytesOf (t .walk) row nothingReady in
+          let made = one-line row nothingReady buffer bytes line-accepted (subst (λ (v : Walk). Recorded v (rest .here) (rest .packets) (w .lines)) walk-of (rest .recorded)) in
           record {
             here = cond (takesRow (t .walk)) (row ∷ rest .here) (rest .here);
             later = rest .later;
+            packets = nothingReady ∷ rest .packets;
             all = by-test (takesRow (t .walk)) (λ e. simp e (ap (λ (l : List (List ℕ)). row ∷ l) (rest .all))) (λ e. simp e (rest .all));
             recorded =
-                subst (λ (l : List ℕ). Recorded (t .walk) (cond (takesRow (t .walk)) (row ∷ rest .here) (rest .here)) (l ∷ w .lines))
-                (line-left (t .walk) row buffer line-accepted) made;
+                subst (λ (l : List ℕ). Recorded (t .walk) (cond (takesRow (t .walk)) (row ∷ rest .here) (rest .here)) (nothingReady ∷ rest .packets) (l ∷ w .lines))
+                (line-left (t .walk) row nothingReady buffer line-accepted) made;
             behind = rest .behind;
           }
 
@@ -153,11 +155,12 @@ module _ (system : ℕ) (t : Tape) (s : Sound system t) where
       record {
         here = [];
         later = rows;
+        packets = [];
         all = refl;
         recorded = no-line;
         behind =
             subst (Recordings system ((t .walk .line, w .lines) ∷ w .more)) (sym (rest .all))
-            (one (t .walk .line) (rest .here) (w .lines) n (subst (λ (v : Walk). Recorded v (rest .here) (w .lines)) at (rest .recorded)) (rest .behind));
+            (one (t .walk .line) (rest .here) (w .lines) (rest .packets) n (subst (λ (v : Walk). Recorded v (rest .here) (rest .packets) (w .lines)) at (rest .recorded)) (rest .behind));
       }
 
 -- where nothing was refused to the end, what was written are recordings of the rows
@@ -175,13 +178,13 @@ module _ (system room : ℕ) (row : List ℕ) (bytes : AllBytes row) (rows : Lis
   mutual-line : (k : ℕ) (u : Tape) → Sound system u → u .number ≡ 0 → T (reaches (suc k) (systemOf (u .walk .system)) (u .walk .line))
       → ((v : Tape) → Sound system v → v .number ≡ 0 → T (reaches k (systemOf (v .walk .system)) (v .walk .line)) → Well system v (onto room k v row rest) (row ∷ rows))
       → Well system u
-      (cond (eqb (tapedOf u row room .number) 0)
-      (lineThen (lineBytesOf (u .walk) row) (cond (takesRow (u .walk)) (rest (tapedOf u row room)) (onto room k (tapedOf u row room) row rest)))
-      (nothingMore (tapedOf u row room)))
+      (cond (eqb (bareTaped u row room .number) 0)
+      (lineThen (lineBytesOf (u .walk) row nothingReady) (cond (takesRow (u .walk)) (rest (bareTaped u row room)) (onto room k (bareTaped u row room) row rest)))
+      (nothingMore (bareTaped u row room)))
       (row ∷ rows)
   unfolding reaches takesRow advancedOf dueOf
   mutual-line k u s z reach more =
-      let v = tapedOf u row room in
+      let v = bareTaped u row room in
       by-test (eqb (v .number) 0)
       (λ t.
       let accepted = eqb-true _ _ t in
@@ -227,7 +230,7 @@ frame-ended system room (suc k) t s =
     (λ goes. simp goes (λ end.
     let tests = and-true (eqb (t .number) 0) _ goes in
     let z = eqb-true _ _ (tests .0) in
-    let after = tapedOf t [] room in
+    let after = bareTaped t [] room in
     let accepted = ended-tape room k after end in
     subst (Splits system t _) (no-row (and-true (endsFrame (t .walk)) _ (tests .1) .0))
     (line-before t [] room z accepted system (endOf room k after) [] (λ i l. absurd (omega arith))

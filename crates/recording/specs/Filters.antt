@@ -7,8 +7,8 @@ use lib.ListN.{length, getD}
 use Rattle.intake.specs.Arrival.{allPieces}
 use Rattle.system.specs.Walk.{mostLines, freshOf}
 use Rattle.system.specs.declared.due.Due.{Due}
-use Rattle.line.specs.Fault.{leastSample, mostSample}
-use Rattle.line.specs.Samples.{Samples, activeLength}
+use Rattle.words.specs.Words.{leastSample, mostSample}
+use Rattle.line.specs.Samples.{Packets, Content, activeLength}
 use Rattle.words.specs.Bytes.{wordsOf, bytesOf}
 use Rattle.writer.specs.Write.{sampleRefusal}
 use Rattle.v210.specs.Row.{rowLength, packedOf, spareRefusal}
@@ -20,12 +20,12 @@ use Rattle.recording.specs.Recording.{Recording}
 use Rattle.recording.specs.Confirmed.{Holds}
 use Rattle.recording.specs.Programme.{Recorded}
 
--- Recordings one behind the other, each its start line and its lines, and the rows that they took in turn.
+-- Recordings one behind the other, each its start line and its lines, and the rows that they took in turn; of packets none.
 pub data Recordings (system : ℕ) : List (ℕ × List (List ℕ)) → List (List ℕ) → Type 0 where
   none : Recordings system [] []
-  one : {more : List (ℕ × List (List ℕ))} {rest : List (List ℕ)} (start : ℕ) (rows lines : List (List ℕ))
+  one : {more : List (ℕ × List (List ℕ))} {rest : List (List ℕ)} (start : ℕ) (rows lines : List (List ℕ)) (ks : List Packets)
       → freshOf system start .number ≡ 0
-      → Recorded (freshOf system start .walk) rows lines
+      → Recorded (freshOf system start .walk) rows ks lines
       → Recordings system more rest
       → Recordings system ((start, lines) ∷ more) (rows ++ rest)
 
@@ -72,10 +72,10 @@ ExtractingConfirms = (bytes : List ℕ) → runAfter (begunOf bytes) (linesIn by
 -- Files that are, in turn, copies of recordings: each of the same samples, damaged in at most one bit of each code.
 pub data Copies (system : ℕ) : List (ℕ × List (List ℕ)) → List (List ℕ) → Type 0 where
   none : Copies system [] []
-  one : {start altered : ℕ} {lines copy : List (List ℕ)} {more : List (ℕ × List (List ℕ))} {files : List (List ℕ)} (ps : List Samples) (file : List ℕ)
-      → Recording system start ps (map wordsOf lines) 0
-      → Recording system start ps (map wordsOf copy) altered
-      → length ps ≤ mostLines
+  one : {start altered : ℕ} {lines copy : List (List ℕ)} {more : List (ℕ × List (List ℕ))} {files : List (List ℕ)} (cs : List Content) (file : List ℕ)
+      → Recording system start cs (map wordsOf lines) 0
+      → Recording system start cs (map wordsOf copy) altered
+      → length cs ≤ mostLines
       → Holds file system start copy []
       → Copies system more files
       → Copies system ((start, lines) ∷ more) (file ∷ files)

@@ -6,28 +6,36 @@ use lib.Dec.{eqb}
 use Rattle.system.specs.declared.walk.Walk.{Walk}
 use Rattle.system.specs.declared.walk.Judgement.{Judgement}
 use Rattle.system.specs.Walk.{dueIn}
-use Rattle.line.specs.Samples.{Samples}
+use Rattle.line.specs.Samples.{Samples, Packets, packetsOf}
 use Rattle.reader.specs.Take.{inTurn}
 
--- what comes of it: the samples of each accepted V = 0 line, and the last answer's number, place and walk
+-- what comes of it: the samples of each accepted V = 0 line, the packets of each accepted line, and the last answer's number, place and walk
 pub record Played : Type 0 where
   pub pictures : List Samples
+  pub packets : List Packets
   pub number : ℕ
   pub place : ℕ
   pub walk : Walk
 
--- a line more: its samples are returned where its V is 0
-abbrev pub andThen : Bool → Samples → Played → Played
-andThen v b rest =
-    record { pictures = cond v (rest .pictures) (b ∷ rest .pictures); number = rest .number; place = rest .place; walk = rest .walk }
+-- a line more: its samples are returned where its V is 0, and its packets, the parts of its own words in which they stand
+abbrev pub andThen : Bool → Samples → Packets → Played → Played
+andThen v b k rest =
+    record {
+      pictures = cond v (rest .pictures) (b ∷ rest .pictures);
+      packets = k ∷ rest .packets;
+      number = rest .number;
+      place = rest .place;
+      walk = rest .walk;
+    }
 
 abbrev pub stoppedBy : Judgement → Played
-stoppedBy j = record { pictures = []; number = j .number; place = j .place; walk = j .walk }
+stoppedBy j = record { pictures = []; packets = []; number = j .number; place = j .place; walk = j .walk }
 
 -- the sample buffers hold what the line before left in them
 unfoldable pub play : Walk → Samples → List (List ℕ) → Played
-play w b [] = record { pictures = []; number = 0; place = 0; walk = w }
+play w b [] = record { pictures = []; packets = []; number = 0; place = 0; walk = w }
 play w b (words ∷ rest) =
     cond (eqb (inTurn w words b .judgement .number) 0)
-    (andThen (dueIn w words .v) (inTurn w words b .buffers) (play (inTurn w words b .judgement .walk) (inTurn w words b .buffers) rest))
+    (andThen (dueIn w words .v) (inTurn w words b .buffers) (packetsOf (dueIn w words) words)
+    (play (inTurn w words b .judgement .walk) (inTurn w words b .buffers) rest))
     (stoppedBy (inTurn w words b .judgement))

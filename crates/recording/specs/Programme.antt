@@ -1,52 +1,69 @@
--- Programmes through recordings: what recording row by row leaves, what extracting line by line gives, and that the rows come back.
+-- Programmes through recordings: what recording line by line leaves, what extracting line by line gives, and that rows and packets come back.
 use Prim.Native.Nat.{ℕ, _*_, _<_, _≤_}
 use mathlib.Core.Path.{_≡_}
 use mathlib.Core.List.{List, [], _∷_, map, List·Memᴰ}
 use mathlib.Core.Bool.{Bool, cond}
 use lib.Dec.{eqb}
-use lib.ListN.{length, getD}
+use lib.ListN.{length, getD, take, drop}
 use Rattle.system.specs.declared.walk.Walk.{Walk}
-use Rattle.system.specs.Figures.{lineLength, systemOf}
+use Rattle.system.specs.Figures.{lineLength, activeOffset, systemOf}
 use Rattle.system.specs.Walk.{mostLines, freshOf}
-use Rattle.line.specs.Samples.{Samples, activeLength, sampleAt}
+use Rattle.line.specs.Fault.{betweenOffset}
+use Rattle.line.specs.Samples.{Samples, Packets, Content, activeLength, sampleAt}
 use Rattle.words.specs.Words.{tab}
 use Rattle.system.specs.declared.walk.Judgement.{Judgement}
 use Rattle.words.specs.Bytes.{wordsOf}
 use Rattle.v210.specs.Row.{rowLength, packedOf}
 use Rattle.programme.specs.Record.{takesRow, rowSamples, recordedOf, lineBytesAfter}
 use Rattle.programme.specs.Extract.{extractedOf, givesRow, rowOfLine}
-use Rattle.recording.specs.Recording.{Recording, pictures}
+use Rattle.recording.specs.Recording.{Recording, pictures, allPackets}
 use Rattle.recording.specs.Promise.{walkAfter}
 
--- Lines in turn from a walk on, each what an accepted call of `record` leaves in a buffer. Told are the rows that were taken and the lines
--- as bytes. A row is a list of bytes.
-pub data Recorded : Walk → List (List ℕ) → List (List ℕ) → Type 0 where
-  end : {w : Walk} → Recorded w [] []
-  next : {w : Walk} {rows lines : List (List ℕ)} (row buffer : List ℕ)
+-- Lines in turn from a walk on, each what an accepted call of `record` leaves in a buffer. Told are the rows that were taken, the packets of
+-- every line, and the lines as bytes. A row is a list of bytes.
+pub data Recorded : Walk → List (List ℕ) → List Packets → List (List ℕ) → Type 0 where
+  end : {w : Walk} → Recorded w [] [] []
+  next : {w : Walk} {rows lines : List (List ℕ)} {ks : List Packets} (row : List ℕ) (k : Packets) (buffer : List ℕ)
       → ((i : ℕ) → i < length row → getD row i 0 < 256)
-      → recordedOf w row (length buffer) .number ≡ 0
-      → Recorded (recordedOf w row (length buffer) .walk) rows lines
-      → Recorded w (cond (takesRow w) (row ∷ rows) rows) (lineBytesAfter w row buffer ∷ lines)
+      → recordedOf w row k (length buffer) .number ≡ 0
+      → Recorded (recordedOf w row k (length buffer) .walk) rows ks lines
+      → Recorded w (cond (takesRow w) (row ∷ rows) rows) (k ∷ ks) (lineBytesAfter w row k buffer ∷ lines)
 
--- what comes of extracting lines up to the first refusal: the rows of the V = 0 lines, and the last answer's number, place and walk
+-- what comes of extracting lines up to the first refusal: the rows of the V = 0 lines, the packets of every line, and the last answer's number,
+-- place and walk
 pub record Extracted : Type 0 where
   pub rows : List (List ℕ)
+  pub packets : List Packets
   pub number : ℕ
   pub place : ℕ
   pub walk : Walk
 
-abbrev pub rowThen : Bool → List ℕ → Extracted → Extracted
-rowThen takes row rest =
-    record { rows = cond takes (row ∷ rest .rows) (rest .rows); number = rest .number; place = rest .place; walk = rest .walk }
+abbrev pub rowThen : Bool → List ℕ → Packets → Extracted → Extracted
+rowThen takes row k rest =
+    record {
+      rows = cond takes (row ∷ rest .rows) (rest .rows);
+      packets = k ∷ rest .packets;
+      number = rest .number;
+      place = rest .place;
+      walk = rest .walk;
+    }
 
 abbrev pub refusedBy : Judgement → Extracted
-refusedBy j = record { rows = []; number = j .number; place = j .place; walk = j .walk }
+refusedBy j = record { rows = []; packets = []; number = j .number; place = j .place; walk = j .walk }
+
+-- the packets of a line's bytes: of each space the first words, as many as extracting tells
+abbrev pub packetsOfLine : Walk → List ℕ → Packets
+packetsOfLine w bytes =
+    record {
+      between = take (extractedOf w bytes rowLength .packets .between) (drop betweenOffset (wordsOf bytes));
+      active = take (extractedOf w bytes rowLength .packets .active) (drop (activeOffset (systemOf (w .system))) (wordsOf bytes));
+    }
 
 unfoldable pub extractAll : Walk → List (List ℕ) → Extracted
-extractAll w [] = record { rows = []; number = 0; place = 0; walk = w }
+extractAll w [] = record { rows = []; packets = []; number = 0; place = 0; walk = w }
 extractAll w (bytes ∷ rest) =
     cond (eqb (extractedOf w bytes rowLength .number) 0)
-    (rowThen (givesRow w bytes) (rowOfLine w bytes) (extractAll (extractedOf w bytes rowLength .walk) rest))
+    (rowThen (givesRow w bytes) (rowOfLine w bytes) (packetsOfLine w bytes) (extractAll (extractedOf w bytes rowLength .walk) rest))
     (refusedBy (extractedOf w bytes rowLength))
 
 -- the row of a line's samples
@@ -57,29 +74,36 @@ rowOf p = packedOf (tab activeLength (sampleAt p))
 abbrev pub Whole : ℕ → List (List ℕ) → Type 0
 Whole system lines = (line : List ℕ) → List·Memᴰ line lines → length line ≡ 2 * lineLength (systemOf system)
 
--- What is recorded of rows is a recording of their samples (`rows-recorded`).
+-- What is recorded of rows and packets is a recording of their samples and those packets (`rows-recorded`).
 abbrev pub RowsRecorded : Type 0
 RowsRecorded =
-    (system start : ℕ) (rows lines : List (List ℕ)) → freshOf system start .number ≡ 0
-    → Recorded (freshOf system start .walk) rows lines
-    → (ps : List Samples) × Recording system start ps (map wordsOf lines) 0 × (pictures system start ps ≡ map rowSamples rows)
-    × (length ps ≤ mostLines) × Whole system lines
+    (system start : ℕ) (rows lines : List (List ℕ)) (ks : List Packets) → freshOf system start .number ≡ 0
+    → Recorded (freshOf system start .walk) rows ks lines
+    → (cs : List Content) × Recording system start cs (map wordsOf lines) 0 × (pictures system start cs ≡ map rowSamples rows)
+    × (allPackets cs ≡ ks) × (length cs ≤ mostLines) × Whole system lines
 
--- Extracting a recording, damaged in at most one bit of each code, gives the row of every V = 0 line (`recording-extracted`).
+-- Extracting a recording, damaged in at most one bit of each code, gives the row of every V = 0 line and the packets of every line
+-- (`recording-extracted`).
 abbrev pub RecordingExtracted : Type 0
 RecordingExtracted =
-    (system start altered : ℕ) (ps : List Samples) (lines : List (List ℕ)) → freshOf system start .number ≡ 0
-    → Recording system start ps (map wordsOf lines) altered → length ps ≤ mostLines → Whole system lines
+    (system start altered : ℕ) (cs : List Content) (lines : List (List ℕ)) → freshOf system start .number ≡ 0
+    → Recording system start cs (map wordsOf lines) altered → length cs ≤ mostLines → Whole system lines
     → _≡_ {A = Extracted} (extractAll (freshOf system start .walk) lines)
-    (record { rows = map rowOf (pictures system start ps); number = 0; place = 0; walk = walkAfter system start ps altered })
+    (record {
+      rows = map rowOf (pictures system start cs);
+      packets = allPackets cs;
+      number = 0;
+      place = 0;
+      walk = walkAfter system start cs altered;
+    })
 
--- So the rows that went in come out, byte for byte, of the recording and of every copy of it that is damaged in at most one bit of each
--- code (`rows-back`).
+-- So the rows and the packets that went in come out, byte for byte, of the recording and of every copy of it that is damaged in at most one bit
+-- of each code (`rows-back`).
 abbrev pub RowsBack : Type 0
 RowsBack =
-    (system start : ℕ) (rows lines : List (List ℕ)) → freshOf system start .number ≡ 0
-    → Recorded (freshOf system start .walk) rows lines
-    → (ps : List Samples) × Recording system start ps (map wordsOf lines) 0 × Whole system lines
-    × ((altered : ℕ) (copy : List (List ℕ)) → Recording system start ps (map wordsOf copy) altered → Whole system copy
+    (system start : ℕ) (rows lines : List (List ℕ)) (ks : List Packets) → freshOf system start .number ≡ 0
+    → Recorded (freshOf system start .walk) rows ks lines
+    → (cs : List Content) × Recording system start cs (map wordsOf lines) 0 × Whole system lines
+    × ((altered : ℕ) (copy : List (List ℕ)) → Recording system start cs (map wordsOf copy) altered → Whole system copy
     → _≡_ {A = Extracted} (extractAll (freshOf system start .walk) copy)
-    (record { rows = rows; number = 0; place = 0; walk = walkAfter system start ps altered }))
+    (record { rows = rows; packets = ks; number = 0; place = 0; walk = walkAfter system start cs altered }))

@@ -5,7 +5,7 @@ use mathlib.Core.Bool.{true}
 use mathlib.Core.List.{List, [], _∷_, map, flatten}
 use lib.ListN.{length, drop}
 use Rattle.system.specs.Walk.{mostLines, freshOf}
-use Rattle.line.specs.Samples.{Samples}
+use Rattle.line.specs.Samples.{Content}
 use Rattle.words.specs.Bytes.{wordsOf}
 use Rattle.confirmation.specs.declared.Run.{Run}
 use Rattle.confirmation.specs.Run.{headerLength, headerSystem, headerStart, begunOf, confirmedOf}
@@ -30,20 +30,20 @@ behindHeaders files = flatten (map (drop headerLength) files)
 -- A recording follows on another where it starts with the line behind that one's last (`recording-follows`).
 abbrev pub RecordingFollows : Type 0
 RecordingFollows =
-    (first second : List ℕ) (system start altered : ℕ) (ps : List Samples) (lines : List (List ℕ)) → freshOf system start .number ≡ 0
-    → Holds first system start lines [] → Recording system start ps (map wordsOf lines) altered → length ps ≤ mostLines
-    → headerSystem second ≡ system → headerStart second ≡ lineAfterAll system start ps
+    (first second : List ℕ) (system start altered : ℕ) (cs : List Content) (lines : List (List ℕ)) → freshOf system start .number ≡ 0
+    → Holds first system start lines [] → Recording system start cs (map wordsOf lines) altered → length cs ≤ mostLines
+    → headerSystem second ≡ system → headerStart second ≡ lineAfterAll system start cs
     → followsOn (confirmedOf first) (begunOf second) ≡ true
 
 -- So recordings that were written one behind the other are a row, of any number of files (`recordings-in-row`).
 abbrev pub RecordingsInRow : Type 0
 RecordingsInRow =
-    (first second : List ℕ) (rest : List (List ℕ)) (system start altered later : ℕ) (ps qs : List Samples) (lines more : List (List ℕ))
+    (first second : List ℕ) (rest : List (List ℕ)) (system start altered later : ℕ) (cs es : List Content) (lines more : List (List ℕ))
     → freshOf system start .number ≡ 0
-    → Holds first system start lines [] → Recording system start ps (map wordsOf lines) altered → length ps ≤ mostLines
-    → freshOf system (lineAfterAll system start ps) .number ≡ 0
-    → Holds second system (lineAfterAll system start ps) more []
-    → Recording system (lineAfterAll system start ps) qs (map wordsOf more) later → length qs ≤ mostLines
+    → Holds first system start lines [] → Recording system start cs (map wordsOf lines) altered → length cs ≤ mostLines
+    → freshOf system (lineAfterAll system start cs) .number ≡ 0
+    → Holds second system (lineAfterAll system start cs) more []
+    → Recording system (lineAfterAll system start cs) es (map wordsOf more) later → length es ≤ mostLines
     → Row (confirmedOf second) rest
     → Row (confirmedOf first) (second ∷ rest)
 
@@ -53,4 +53,4 @@ abbrev pub RowIsOne : Type 0
 RowIsOne =
     (first : List ℕ) (rest : List (List ℕ)) → confirmedOf first .number ≡ 0 → Row (confirmedOf first) rest
     → (lines : List (List ℕ)) × (behindHeaders (first ∷ rest) ≡ flatten lines) × Whole (headerSystem first) lines
-    × (ps : List Samples) × (altered : ℕ) × Recording (headerSystem first) (headerStart first) ps (map wordsOf lines) altered
+    × (cs : List Content) × (altered : ℕ) × Recording (headerSystem first) (headerStart first) cs (map wordsOf lines) altered

@@ -1,7 +1,10 @@
-// Cases of the calls on bytes: words as bytes, rows, recording and extracting lines, confirming, sums over recordings, and how bytes arrive.
+// Cases of the calls on bytes: words as bytes, rows, recording and extracting lines, confirming, sums over recordings, how bytes arrive, and the
+// packets file.
 mod arrivals;
 mod bytes;
-mod programmes;
+mod extractors;
+mod heads;
+mod recorders;
 mod runs;
 mod tapes;
 mod totals;
@@ -20,7 +23,7 @@ fn answered_run(kind: u32, payload: &[u8]) -> Numbers {
     }
 }
 
-// Tapes, and how bytes arrive.
+// Tapes, how bytes arrive, and the packets file.
 fn answered_step(kind: u32, payload: &[u8]) -> Numbers {
     match kind {
         110 => tapes::begin(payload),
@@ -28,6 +31,7 @@ fn answered_step(kind: u32, payload: &[u8]) -> Numbers {
         120 => arrivals::tells(payload),
         121 => arrivals::so_far(payload),
         122 => arrivals::after(payload),
+        130 => heads::judge(payload),
         _ => Numbers::none(),
     }
 }
@@ -50,9 +54,11 @@ pub fn answer_case(kind: u32, payload: &[u8], answer: &mut [u8]) -> usize {
         62 => bytes::with_room_for_bytes(false, payload, answer),
         70 => bytes::with_room_for_words(true, payload, answer),
         71 => bytes::with_room_for_bytes(true, payload, answer),
-        80 | 81 => programmes::with_room(kind, 16, payload, answer),
-        86 => programmes::with_room(kind, runs::RUN, payload, answer),
-        114 => programmes::with_room(kind, tapes::TAPE, payload, answer),
+        80 => recorders::with_room(kind, 16, payload, answer),
+        81 => extractors::with_room(kind, 16, payload, answer),
+        86 => extractors::with_room(kind, runs::RUN, payload, answer),
+        114 => recorders::with_room(kind, tapes::TAPE, payload, answer),
+        131 => heads::with_room(payload, answer),
         _ => put_numbers(answer, answered(kind, payload)),
     }
 }

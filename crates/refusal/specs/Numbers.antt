@@ -56,3 +56,19 @@ outside = 12
 -- "serial state: scrambled bits over 511 or last bit over 1"
 abbrev pub badState : ℕ
 badState = 13
+
+-- Document 02, L6: "15 bad header parity"
+abbrev pub badParity : ℕ
+badParity = 15
+
+-- "16 bad checksum (at the checksum)"
+abbrev pub badChecksum : ℕ
+badChecksum = 16
+
+-- "17 the user words and checksum run past the space (at the count word)"
+abbrev pub packetPast : ℕ
+packetPast = 17
+
+-- no number of the documents: an entry of a packets file is none, does not rise, or is for a line that is not written
+abbrev pub badEntry : ℕ
+badEntry = 22

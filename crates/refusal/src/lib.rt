@@ -12,7 +12,7 @@ impl Refusal {
     };
 }
 
-// Document 01's numbers of refusals, in the words of its table.
+// Document 01's numbers of refusals, and those that document 02 adds, in the words of their tables.
 pub struct Number;
 
 impl Number {
@@ -54,4 +54,16 @@ impl Number {
 
     // Serial state: scrambled bits over 511 or last bit over 1.
     pub const BAD_STATE: u32 = 13;
+
+    // A header word of a packet has bad parity.
+    pub const BAD_PARITY: u32 = 15;
+
+    // A packet's checksum is wrong.
+    pub const BAD_CHECKSUM: u32 = 16;
+
+    // A packet's user words and checksum run past the space.
+    pub const PACKET_PAST: u32 = 17;
+
+    // An entry of a packets file is none, does not rise, or is for a line that is not written.
+    pub const BAD_ENTRY: u32 = 22;
 }

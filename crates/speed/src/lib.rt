@@ -65,12 +65,14 @@ pub extern "C" fn speed_write(
     y: &[u16],
     cb: &[u16],
     cr: &[u16],
+    between: &[u16],
+    active: &[u16],
     words: &mut [u16],
 ) -> u32
-    ensures answer { λ r. ⌜ r ≡ writeRefusal system line (record { y = now (y .entry); cb = now (cb .entry); cr = now (cr .entry) }) (length (now (words .entry))) .number ⌝ }
-    ensures words { λ r. ⌜ now (words .exit) ≡ lineAfter system line (record { y = now (y .entry); cb = now (cb .entry); cr = now (cr .entry) }) (now (words .entry)) ⌝ }
+    ensures answer { λ r. ⌜ r ≡ writeRefusal system line (record { samples = record { y = now (y .entry); cb = now (cb .entry); cr = now (cr .entry) }; packets = record { between = now (between .entry); active = now (active .entry) } }) (length (now (words .entry))) .number ⌝ }
+    ensures words { λ r. ⌜ now (words .exit) ≡ lineAfter system line (record { samples = record { y = now (y .entry); cb = now (cb .entry); cr = now (cr .entry) }; packets = record { between = now (between .entry); active = now (active .entry) } }) (now (words .entry)) ⌝ }
 {
-    writer::write(system, line, y, cb, cr, words).number
+    writer::write(system, line, y, cb, cr, between, active, words).number
 }
 
 #[no_mangle]

@@ -1,1 +1,3 @@
+pub mod NextEntries
 pub mod Turns
+pub mod Lines

@@ -1,166 +1,196 @@
 -- Each way that a turn of a filter ends is one of the definition's. Assumes nothing.
-use Prim.Native.Nat.{ℕ, zero, suc}
-use mathlib.Core.Path.{_≡_, refl, sym, ap, _∙_}
-use mathlib.Core.Bool.{Bool, true, false, true≢false}
-use mathlib.Core.List.{List, []}
+use Prim.Native.Nat.{ℕ}
+use mathlib.Core.Path.{_≡_, sym, ap, ap₂, _∙_}
+use mathlib.Core.Bool.{Bool, true, false, cond, true≢false}
+use mathlib.Core.List.{List}
 use native.Mathlib.Omega.{arith}
-use lib.Dec.{eqb}
 use lib.ListN.{take}
-use borrow.Author.Tests.{eq-eqb, ne-eqb, eqb-true}
+use lib.Dec.{eqb}
+use borrow.Author.Tests.{eq-eqb, ne-eqb}
 use Rattle.refusal.proofs.Cases.{by-test}
+use Rattle.refusal.specs.Numbers.{badEntry}
 use Rattle.intake.specs.declared.Filled.{Filled}
 use Rattle.confirmation.specs.declared.Run.{Run}
 use Rattle.programme.specs.declared.extractor.Extraction.{Extraction}
 use Rattle.programme.specs.declared.tape.Tape.{Tape}
-use Rattle.programme.specs.Record.{takesRow}
+use Rattle.line.specs.Samples.{Packets}
 use Rattle.programme.specs.Extraction.{extractionOf}
-use Rattle.programme.specs.Tape.{turnsAt, tapedOf, endsAt, atLine, nothingMore, onto, endOf, mostTurns}
+use Rattle.programme.specs.Tape.{tapedOf}
 use Rattle.console.specs.declared.Status.{Status}
-use Rattle.console.specs.declared.Status.the-variants.{Done, Refused, Unread, Unwritten}
+use Rattle.console.specs.declared.Status.the-variants.{Done, Refused, Unread, Unwritten, Failed}
 use Rattle.console.specs.Status.{codeOf}
+use Rattle.station.specs.declared.entries.Entries.{Entries}
 use Rattle.station.specs.declared.extractor.Extracting.{Extracting}
-use Rattle.station.specs.declared.recorder.Output.{Output}
-use Rattle.station.specs.declared.recorder.Taping.{Taping}
-use Rattle.station.specs.Turns.{extractedTurn, extractTurn, tapedTurn}
+use Rattle.station.specs.declared.sidecar.Sidecar.{Sidecar}
+use Rattle.station.specs.declared.taping.Output.{Output}
+use Rattle.station.specs.declared.taping.Taping.{Taping}
+use Rattle.station.specs.Entries.{isLost}
+use Rattle.station.specs.Turns.{behindLine, writesRow, unpacked, rowTurn, extractedTurn, extractTurn, tapedTurn, Goes, OnLine, endedOf, refusedEntry, haltedOf}
 
 -- ---- extracting, with the library's step
-module _ (e f : Extraction) (is : e ≡ f) (r : Extracting) where
+module _ (run : Run) (s : Sidecar) (writes : Bool) (r : Extracting) where
+  abbrev Put : Type 0
+  Put = (written : Bool) × (r ≡ rowTurn run s writes written)
+
+  pub no-row : writes ≡ false → r ≡ record { run = run; sidecar = s; done = false; status = Done } → Put
+  no-row w end = (true, end ∙ (simp w))
+
+  pub row-written : writes ≡ true → r ≡ record { run = run; sidecar = s; done = false; status = Done } → Put
+  row-written w end = (true, end ∙ (simp w))
+
+  pub row-unwritten : writes ≡ true → r ≡ record { run = run; sidecar = s; done = true; status = Unwritten } → Put
+  row-unwritten w end = (false, end ∙ (simp w))
+
+module _ (e f : Extraction) (is : e ≡ f) (s : Sidecar) (r : Extracting) where
   abbrev Extracted : Type 0
-  Extracted = (written : Bool) × (r ≡ extractedTurn f written)
+  Extracted = (packed : Bool) × (written : Bool) × (r ≡ extractedTurn f s packed written)
 
-  pub refused-extracted : (e .run .number ≡ 0 → ⊥) → r ≡ record { run = e .run; done = true; status = Refused } → Extracted
-  refused-extracted n end = (true, end ∙ (simp (ne-eqb _ _ n)) ∙ ap (λ (x : Extraction). extractedTurn x true) is)
+  pub refused-extracted : (e .run .number ≡ 0 → ⊥) → r ≡ record { run = e .run; sidecar = s; done = true; status = Refused } → Extracted
+  refused-extracted n end = (true, true, end ∙ (simp (ne-eqb _ _ n)) ∙ ap (λ (x : Extraction). extractedTurn x s true true) is)
 
-  pub none-given : e .run .number ≡ 0 → e .gives ≡ false → r ≡ record { run = e .run; done = false; status = Done } → Extracted
-  none-given z g end = (true, end ∙ (simp (eq-eqb _ _ z, g)) ∙ ap (λ (x : Extraction). extractedTurn x true) is)
+  pub packets-left : e .run .number ≡ 0 → (beside : Sidecar) → beside ≡ behindLine s (e .packets) → (status : Status) → status ≡ unpacked s
+      → r ≡ record { run = e .run; sidecar = beside; done = true; status = status } → Extracted
+  packets-left z beside b status u end = (
+    false,
+    true,
+    end ∙ ap₂ (λ (x : Sidecar) (y : Status). record { run = e .run; sidecar = x; done = true; status = y }) b u ∙ (simp (eq-eqb _ _ z))
+        ∙ ap (λ (x : Extraction). extractedTurn x s false true) is,
+  )
 
-  pub row-written : e .run .number ≡ 0 → e .gives ≡ true → r ≡ record { run = e .run; done = false; status = Done } → Extracted
-  row-written z g end = (true, end ∙ (simp (eq-eqb _ _ z, g)) ∙ ap (λ (x : Extraction). extractedTurn x true) is)
-
-  pub row-unwritten : e .run .number ≡ 0 → e .gives ≡ true → r ≡ record { run = e .run; done = true; status = Unwritten } → Extracted
-  row-unwritten z g end = (false, end ∙ (simp (eq-eqb _ _ z, g)) ∙ ap (λ (x : Extraction). extractedTurn x false) is)
+  pub packets-put : e .run .number ≡ 0 → (beside : Sidecar) → beside ≡ behindLine s (e .packets) → (written : Bool)
+      → r ≡ rowTurn (e .run) beside (writesRow e s) written → Extracted
+  packets-put z beside b written end = (
+    true,
+    written,
+    end ∙ ap (λ (x : Sidecar). rowTurn (e .run) x (writesRow e s) written) b ∙ (simp (eq-eqb _ _ z))
+        ∙ ap (λ (x : Extraction). extractedTurn x s true written) is,
+  )
 
 -- ---- extracting, with what was filled
-module _ (run : Run) (filled : Filled) (line : List ℕ) (room : ℕ) (r : Extracting) where
+module _ (run : Run) (s : Sidecar) (filled : Filled) (line : List ℕ) (room : ℕ) (r : Extracting) where
   abbrev Turned : Type 0
-  Turned = (written : Bool) × (r ≡ extractTurn run filled line room written)
+  Turned = (packed : Bool) × (written : Bool) × (r ≡ extractTurn run s filled line room packed written)
 
-  pub line-unread : filled .failed ≡ true → r ≡ record { run = run; done = true; status = Unread } → Turned
+  pub line-unread : filled .failed ≡ true → r ≡ record { run = run; sidecar = s; done = true; status = Unread } → Turned
   unfolding extractTurn
-  line-unread f end = (true, simp f end)
+  line-unread f end = (true, true, simp f end)
 
-  pub input-ended : filled .failed ≡ false → filled .have ≡ 0 → r ≡ record { run = run; done = true; status = Done } → Turned
+  pub input-ended : filled .failed ≡ false → filled .have ≡ 0 → r ≡ record { run = run; sidecar = s; done = true; status = Done } → Turned
   unfolding extractTurn
-  input-ended f z end = (true, simp (f, eq-eqb _ _ z) end)
+  input-ended f z end = (true, true, simp (f, eq-eqb _ _ z) end)
 
   pub line-filled : filled .failed ≡ false → (filled .have ≡ 0 → ⊥) → (bytes : List ℕ) → bytes ≡ take (filled .have) line
-      → (written : Bool) → r ≡ extractedTurn (extractionOf run bytes room) written → Turned
+      → (packed written : Bool) → r ≡ extractedTurn (extractionOf run bytes room) s packed written → Turned
   unfolding extractTurn
-  line-filled f n bytes is written end =
-      (written, simp (f, ne-eqb _ _ n) (end ∙ ap (λ (b : List ℕ). extractedTurn (extractionOf run b room) written) is))
+  line-filled f n bytes are packed written end =
+      (packed, written, simp (f, ne-eqb _ _ n) (end ∙ ap (λ (b : List ℕ). extractedTurn (extractionOf run b room) s packed written) are))
+
+-- ---- a taping that goes on, or ended otherwise than well
+module _ (t : Tape) (e : Entries) (r : Taping) where
+  pub goes-open : {output : Output} → r ≡ record { tape = t; output = output; entries = e; done = false; status = Done } → Goes t e r
+  goes-open is =
+      record {
+        on = λ goes. (ap (λ (x : Taping). x .tape) is, ap (λ (x : Taping). x .entries) is);
+        ended = λ done. absurd (true≢false (sym done ∙ ap (λ (x : Taping). x .done) is));
+      }
+
+  pub goes-badly : (at : Taping) (status : Status) → (codeOf status ≡ 0 → ⊥) → r ≡ endedOf at status → Goes t e r
+  goes-badly at status bad is =
+      record {
+        on = λ goes. absurd (true≢false (sym (ap (λ (x : Taping). x .done) is) ∙ goes));
+        ended = λ done code. bad (ap (λ (x : Taping). codeOf (x .status)) (sym is) ∙ code);
+      }
+
+  -- the same under other names
+  pub goes-as : (at : Taping) {output : Output} → at ≡ record { tape = t; output = output; entries = e; done = false; status = Done }
+      → Goes (at .tape) (at .entries) r → Goes t e r
+  goes-as at is goes =
+      record {
+        on = λ on. (goes .on on .0 ∙ ap (λ (x : Taping). x .tape) is, goes .on on .1 ∙ ap (λ (x : Taping). x .entries) is);
+        ended = goes .ended;
+      }
+
+pub goes-tape : {t u : Tape} {e : Entries} (r : Taping) → t ≡ u → Goes t e r → Goes u e r
+goes-tape r is goes = record { on = λ on. (goes .on on .0 ∙ is, goes .on on .1); ended = goes .ended }
+
+pub unwritten-badly : codeOf Unwritten ≡ 0 → ⊥
+unwritten-badly z = omega arith
+
+pub failed-badly : codeOf Failed ≡ 0 → ⊥
+failed-badly z = omega arith
 
 -- ---- recording, with the library's step
-module _ (t u : Tape) (is : t ≡ u) (output : Output) (r : Taping) where
+module _ (t u : Tape) (is : t ≡ u) (output : Output) (e f : Entries) (are : e ≡ f) (at r : Taping)
+    (opened : at ≡ record { tape = t; output = output; entries = e; done = false; status = Done }) where
   abbrev Taped : Type 0
-  Taped = (written : Bool) × (r ≡ tapedTurn u output written)
+  Taped = (written : Bool) × (r ≡ tapedTurn u output f written)
 
-  pub line-refused : (t .number ≡ 0 → ⊥) → r ≡ record { tape = t; output = output; done = true; status = Refused } → Taped
-  line-refused n end = (true, end ∙ (simp (ne-eqb _ _ n)) ∙ ap (λ (x : Tape). tapedTurn x output true) is)
+  pub line-refused : (t .number ≡ 0 → ⊥) → r ≡ endedOf at Refused → Taped
+  line-refused n end =
+      (true, end ∙ ap (λ (x : Taping). endedOf x Refused) opened ∙ (simp (ne-eqb _ _ n)) ∙ ap₂ (λ (x : Tape) (y : Entries). tapedTurn x output y true) is are)
 
-  pub line-written : t .number ≡ 0 → r ≡ record { tape = t; output = output; done = false; status = Done } → Taped
-  line-written z end = (true, end ∙ (simp (eq-eqb _ _ z)) ∙ ap (λ (x : Tape). tapedTurn x output true) is)
+  pub line-written : t .number ≡ 0 → r ≡ at → Taped
+  line-written z end =
+      (true, end ∙ opened ∙ (simp (eq-eqb _ _ z)) ∙ ap₂ (λ (x : Tape) (y : Entries). tapedTurn x output y true) is are)
 
-  pub line-unwritten : t .number ≡ 0 → r ≡ record { tape = t; output = output; done = true; status = Unwritten } → Taped
-  line-unwritten z end = (false, end ∙ (simp (eq-eqb _ _ z)) ∙ ap (λ (x : Tape). tapedTurn x output false) is)
+  pub line-unwritten : t .number ≡ 0 → r ≡ endedOf at Unwritten → Taped
+  line-unwritten z end =
+      (false, end ∙ ap (λ (x : Taping). endedOf x Unwritten) opened ∙ (simp (eq-eqb _ _ z)) ∙ ap₂ (λ (x : Tape) (y : Entries). tapedTurn x output y false) is are)
 
--- a turn that is done says nothing of one that goes on
-pub not-done : {A : Type 0} {tape : Tape} {output : Output} {status : Status} (r : Taping)
-    → r ≡ record { tape = tape; output = output; done = true; status = status } → r .done ≡ false → A
-not-done r e goes = absurd (true≢false (sym (ap (λ (x : Taping). x .done) e) ∙ goes))
+-- ---- a tape that its packets file ends
+module _ (at r : Taping) where
+  pub halted-lost : isLost (at .entries .next) ≡ true → r ≡ endedOf at Unread → r ≡ haltedOf at
+  unfolding haltedOf
+  halted-lost lost end = simp lost end
 
--- one that goes on has taken its line
-taken-number : (t : Tape) (output : Output) (written : Bool) → tapedTurn t output written .done ≡ false → t .number ≡ 0
-taken-number t output written goes =
-    by-test (eqb (t .number) 0) (λ z. eqb-true _ _ z) (λ n. absurd (true≢false (simp n at goes)))
+  pub halted-refused : isLost (at .entries .next) ≡ false → (opened : Taping)
+      → opened ≡ record { tape = record { walk = at .tape .walk; most = at .tape .most; number = badEntry; place = 0 }; output = at .output; entries = at .entries; done = false; status = Done }
+      → r ≡ endedOf opened Refused → r ≡ haltedOf at
+  unfolding haltedOf
+  halted-refused left opened is end = simp left (end ∙ ap (λ (x : Taping). endedOf x Refused) is)
 
-pub on-the-line : (t : Tape) (output : Output) (r : Taping) → ((written : Bool) × (r ≡ tapedTurn t output written)) → r .done ≡ false
-    → (r .tape ≡ t) × (r .tape .number ≡ 0)
-on-the-line t output r turn goes =
-    let e = turn .1 in (
-      ap (λ (x : Taping). x .tape) e,
-      ap (λ (x : Taping). x .tape .number) e ∙ taken-number t output (turn .0) (sym (ap (λ (x : Taping). x .done) e) ∙ goes),
-    )
-
--- and one that is done with its line did not end well
-pub not-well : (t : Tape) (output : Output) (r : Taping) → ((written : Bool) × (r ≡ tapedTurn t output written)) → r .done ≡ true
-    → r .status ≡ Done → ⊥
-not-well t output r turn done well =
-    let e = turn .1 in
-    ended-badly t output (turn .0) (sym (ap (λ (x : Taping). x .done) e) ∙ done) (ap (λ (x : Taping). codeOf (x .status)) (sym e) ∙ ap codeOf well)
+-- it ended otherwise than well
+pub halted-badly : (at r : Taping) → r ≡ haltedOf at → (r .done ≡ true) × (codeOf (r .status) ≡ 0 → ⊥)
+unfolding haltedOf
+halted-badly at r is =
+    by-test (isLost (at .entries .next))
+    (λ lost. ended-so at r Unread unread-badly (is ∙ ap (λ (b : Bool). cond b (endedOf at Unread) (refusedEntry at)) lost))
+    (λ left. ended-so (refusedEntry at) r Refused refused-badly (is ∙ ap (λ (b : Bool). cond b (endedOf at Unread) (refusedEntry at)) left))
   where
-    ended-badly : (t : Tape) (output : Output) (written : Bool) → tapedTurn t output written .done ≡ true
-        → codeOf (tapedTurn t output written .status) ≡ 0 → ⊥
-    ended-badly t output true done code =
-        by-test (eqb (t .number) 0) (λ z. true≢false (sym (simp z at done))) (λ n. let k = simp n at code in omega arith)
-    ended-badly t output false done code =
-        by-test (eqb (t .number) 0) (λ z. let k = simp z at code in omega arith) (λ n. let k = simp n at code in omega arith)
+    unread-badly : codeOf Unread ≡ 0 → ⊥
+    unread-badly z = omega arith
 
--- ---- the tape after a row, line by line
-module _ (room : ℕ) (row : List ℕ) (t : Tape) (n k : ℕ) (left : n ≡ suc k) (on : tapedOf (atLine t) row room .number ≡ 0) where
-  pub row-taken : takesRow (atLine t .walk) ≡ true → onto room n t row nothingMore .tape ≡ tapedOf (atLine t) row room
-  unfolding onto
-  row-taken takes = rw left (by-test (turnsAt t) (λ a. simp (a, eq-eqb _ _ (simp a at on), simp a at takes)) (λ a. simp (a, eq-eqb _ _ (simp a at on), simp a at takes)))
+    refused-badly : codeOf Refused ≡ 0 → ⊥
+    refused-badly z = omega arith
 
-  pub row-still-due : takesRow (atLine t .walk) ≡ false
-      → onto room n t row nothingMore .tape ≡ onto room k (tapedOf (atLine t) row room) row nothingMore .tape
-  unfolding onto
-  row-still-due takes = rw left (by-test (turnsAt t) (λ a. simp (a, eq-eqb _ _ (simp a at on), simp a at takes)) (λ a. simp (a, eq-eqb _ _ (simp a at on), simp a at takes)))
+    ended-so : (at r : Taping) (status : Status) → (codeOf status ≡ 0 → ⊥) → r ≡ endedOf at status → (r .done ≡ true) × (codeOf (r .status) ≡ 0 → ⊥)
+    ended-so at r status bad e = (ap (λ (x : Taping). x .done) e, λ code. bad (ap (λ (x : Taping). codeOf (x .status)) (sym e) ∙ code))
 
--- ---- the tape at the end of a frame, line by line
-module _ (room : ℕ) (t : Tape) where
-  pub frame-over : (k : ℕ) → endsAt t ≡ false → endOf room k t .tape ≡ t
-  unfolding endOf
-  frame-over zero e = refl
-  frame-over (suc k) e = simp e
+-- a turn that is done with its line did not end well
+not-well : (t : Tape) (output : Output) (e : Entries) (written : Bool) → tapedTurn t output e written .done ≡ true
+    → codeOf (tapedTurn t output e written .status) ≡ 0 → ⊥
+not-well t output e true done code =
+    by-test (eqb (t .number) 0) (λ z. true≢false (sym (simp z at done))) (λ n. let k = simp n at code in omega arith)
+not-well t output e false done code =
+    by-test (eqb (t .number) 0) (λ z. let k = simp z at code in omega arith) (λ n. let k = simp n at code in omega arith)
 
-  pub frame-goes-on : (n k : ℕ) → n ≡ suc k → endsAt t ≡ true → endOf room n t .tape ≡ endOf room k (tapedOf t [] room) .tape
-  unfolding endOf
-  frame-goes-on n k left e = rw left (simp e)
+-- ---- the awaited line
+module _ (at : Taping) (row : List ℕ) (room : ℕ) (r : Taping) where
+  pub line-halted : (other : Taping) → r ≡ haltedOf other → OnLine at row room r
+  line-halted other is =
+      let bad = halted-badly other r is in
+      record { on = λ goes. absurd (true≢false (sym (bad .0) ∙ goes)); ended = λ done. bad .1 }
 
-  pub no-more-lines : (n : ℕ) → n ≡ 0 → endOf room n t .tape ≡ t
-  unfolding endOf
-  no-more-lines n z = rw z refl
-
--- ---- a turn of a row's loop: so far the tape comes to what the whole row does, and it does so behind the line
-module _ (room size : ℕ) (same : size ≡ room) (row : List ℕ) (first here : Tape) (output : Output) (at r : Taping) (n k : ℕ) (left : n ≡ suc k)
-    (so-far : onto room mostTurns first row nothingMore .tape ≡ onto room n here row nothingMore .tape) (there : at .tape ≡ atLine here)
-    (turn : (written : Bool) × (r ≡ tapedTurn (tapedOf (at .tape) row size) output written)) (goes : r .done ≡ false) where
-  on : (r .tape ≡ tapedOf (atLine here) row room) × (tapedOf (atLine here) row room .number ≡ 0)
-  on =
-      let o = on-the-line (tapedOf (at .tape) row size) output r turn goes in
-      let is : tapedOf (at .tape) row size ≡ tapedOf (atLine here) row room =
-      ap (λ (t : Tape). tapedOf t row size) there ∙ ap (tapedOf (atLine here) row) same in
-      (o .0 ∙ is, ap (λ (t : Tape). t .number) (sym (o .0 ∙ is)) ∙ o .1)
-
-  pub row-done : takesRow (at .tape .walk) ≡ true → r .tape ≡ onto room mostTurns first row nothingMore .tape
-  row-done takes =
-      on .0 ∙ sym (so-far ∙ row-taken room row here n k left (on .1) (ap (λ (t : Tape). takesRow (t .walk)) (sym there) ∙ takes))
-
-  pub row-goes-on : takesRow (at .tape .walk) ≡ false → onto room mostTurns first row nothingMore .tape ≡ onto room k (r .tape) row nothingMore .tape
-  row-goes-on takes =
-      so-far ∙ row-still-due room row here n k left (on .1) (ap (λ (t : Tape). takesRow (t .walk)) (sym there) ∙ takes)
-      ∙ ap (λ (t : Tape). onto room k t row nothingMore .tape) (sym (on .0))
-
--- and where no line is left
-pub row-left : (room n : ℕ) (row : List ℕ) (t : Tape) → n ≡ 0 → onto room n t row nothingMore .tape ≡ t
-unfolding onto
-row-left room n row t z = rw z refl
-
--- ---- a turn of the end of a frame
-module _ (room size : ℕ) (same : size ≡ room) (first here : Tape) (output : Output) (r : Taping) (n k : ℕ) (left : n ≡ suc k)
-    (so-far : endOf room mostTurns first .tape ≡ endOf room n here .tape) (ends : endsAt here ≡ true)
-    (turn : (written : Bool) × (r ≡ tapedTurn (tapedOf here [] size) output written)) (goes : r .done ≡ false) where
-  pub end-goes-on : endOf room mostTurns first .tape ≡ endOf room k (r .tape) .tape
-  end-goes-on =
-      let o = on-the-line (tapedOf here [] size) output r turn goes .0 ∙ ap (tapedOf here []) same in
-      so-far ∙ frame-goes-on room here n k left ends ∙ ap (λ (t : Tape). endOf room k t .tape) (sym o)
+  pub line-put : (next : Taping) (size : ℕ) (k : Packets) (output : Output) (e : Entries) → next .tape ≡ at .tape → size ≡ room
+      → ((written : Bool) × (r ≡ tapedTurn (tapedOf (next .tape) row k size) output e written)) → OnLine at row room r
+  line-put next size k output e there same turn =
+      let is = turn .1 in
+      record {
+        on = λ goes. (
+          k,
+          ap (λ (x : Taping). x .tape) is ∙ ap (λ (t : Tape). tapedOf t row k size) there ∙ ap (tapedOf (at .tape) row k) same,
+        );
+        ended = λ done code.
+            not-well (tapedOf (next .tape) row k size) output e (turn .0) (sym (ap (λ (x : Taping). x .done) is) ∙ done)
+            (sym (ap (λ (x : Taping). codeOf (x .status)) is) ∙ code);
+      }

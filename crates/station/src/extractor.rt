@@ -1,11 +1,12 @@
-// `extract`: a recording in, the v210 rows of its V = 0 lines out.
+// `extract`: a recording in, the v210 rows of its V = 0 lines out, and the packets of its lines beside them; and `packets`, which lists those.
 ghost use mathlib.Core.Path.{_≡_};
 ghost use mathlib.Core.Bool.{Bool, true, false};
 ghost use Prim.Native.Nat.{_≤_};
 ghost use lib.ListN.{length};
 ghost use Rattle.programme.specs.Extraction.{extractionOf};
 ghost use Rattle.console.specs.declared.Status.the-variants.{Done};
-ghost use Rattle.station.specs.Turns.{extractedTurn, extractTurn, extractedRead};
+ghost use Rattle.station.specs.Turns.{unpacked, rowTurn, extractedTurn, extractTurn, extractedRead};
+use crate::sidecar::Sidecar;
 use confirmation::Run;
 use console::Read;
 use console::Status;
@@ -13,79 +14,123 @@ use intake::Filled;
 use libc::STDOUT_FILENO;
 use system::System625;
 
-// The confirming program's run over the lines, and whether it is done, and how it ended.
+// The confirming program's run over the lines, what is kept beside the rows, whether it is done, and how it ended.
 struct Extracting {
     run: Run,
+    sidecar: Sidecar,
     done: bool,
     status: Status,
 }
 
-fn open(run: Run) -> Extracting
-    ensures { λ r. ⌜ r ≡ record { run = run; done = false; status = Done } ⌝ }
+// What a recording came to, and what is kept beside its rows.
+pub struct Extracted {
+    pub read: Read,
+    pub sidecar: Sidecar,
+}
+
+fn open(run: Run, sidecar: Sidecar) -> Extracting
+    ensures { λ r. ⌜ r ≡ record { run = run; sidecar = sidecar; done = false; status = Done } ⌝ }
 {
     Extracting {
         run,
+        sidecar,
         done: false,
         status: Status::Done,
     }
 }
 
-fn ended(run: Run, status: Status) -> Extracting
-    ensures { λ r. ⌜ r ≡ record { run = run; done = true; status = status } ⌝ }
+fn ended(run: Run, sidecar: Sidecar, status: Status) -> Extracting
+    ensures { λ r. ⌜ r ≡ record { run = run; sidecar = sidecar; done = true; status = status } ⌝ }
 {
     Extracting {
         run,
+        sidecar,
         done: true,
         status,
     }
 }
 
-// The run after a line's bytes, or what is left at the end, as `programme` decides; the row that they give is written.
-fn put_row(run: Run, bytes: &[u8], row: &mut [u8]) -> Extracting
-    ensures { λ r. ⌜ ((written : Bool) × (r ≡ extractedTurn (extractionOf run (now (bytes .entry)) (length (now (row .entry)))) written)) ⌝ }
+// How extracting ends where packets could not be put: the output failed that lists them, or the file, which is said by its name.
+fn unpacked_status(sidecar: Sidecar) -> Status
+    ensures { λ r. ⌜ r ≡ unpacked sidecar ⌝ }
+{
+    if sidecar.listed {
+        return Status::Unwritten;
+    }
+    Status::Failed
+}
+
+// Writes a row, where it is to be written.
+fn put_row(run: Run, sidecar: Sidecar, writes: bool, row: &[u8]) -> Extracting
+    ensures { λ r. ⌜ ((written : Bool) × (r ≡ rowTurn run sidecar writes written)) ⌝ }
+{
+    if !writes {
+        return open(run, sidecar);
+    }
+    if io::write_all(STDOUT_FILENO, row) {
+        return open(run, sidecar);
+    }
+    ended(run, sidecar, Status::Unwritten)
+}
+
+// The run after a line's bytes, or what is left at the end, as `programme` decides; the packets that they have are put, and the row that they
+// give is written.
+fn put_line(run: Run, sidecar: Sidecar, bytes: &[u8], row: &mut [u8]) -> Extracting
+    ensures { λ r. ⌜ ((packed : Bool) × (written : Bool) × (r ≡ extractedTurn (extractionOf run (now (bytes .entry)) (length (now (row .entry)))) sidecar packed written)) ⌝ }
 {
     let extraction = programme::extract_next(run, bytes, row);
     let next = extraction.run;
     if next.number != 0 {
-        return ended(next, Status::Refused);
+        return ended(next, sidecar, Status::Refused);
     }
-    if !extraction.gives {
-        return open(next);
+    let packets = extraction.packets;
+    let beside = sidecar.behind(packets);
+    if !sidecar.put(run.walk, bytes, packets) {
+        return ended(next, beside, unpacked_status(sidecar));
     }
-    if io::write_all(STDOUT_FILENO, row) {
-        return open(next);
-    }
-    ended(next, Status::Unwritten)
+    put_row(next, beside, extraction.gives & !sidecar.listed, row)
 }
 
 // What a turn makes of what was filled of a line.
-fn turned(run: Run, filled: Filled, line: &[u8], row: &mut [u8]) -> Extracting
+fn turned(run: Run, sidecar: Sidecar, filled: Filled, line: &[u8], row: &mut [u8]) -> Extracting
     requires { ⌜ filled .have ≤ length (now line) ⌝ }
-    ensures { λ r. ⌜ ((written : Bool) × (r ≡ extractTurn run filled (now (line .entry)) (length (now (row .entry))) written)) ⌝ }
+    ensures { λ r. ⌜ ((packed : Bool) × (written : Bool) × (r ≡ extractTurn run sidecar filled (now (line .entry)) (length (now (row .entry))) packed written)) ⌝ }
 {
     if filled.failed {
-        return ended(run, Status::Unread);
+        return ended(run, sidecar, Status::Unread);
     }
     let have = filled.have;
     if have == 0 {
-        return ended(run, Status::Done);
+        return ended(run, sidecar, Status::Done);
     }
-    put_row(run, &line[0..have], row)
+    put_line(run, sidecar, &line[0..have], row)
 }
 
 // Takes one line of the input.
-fn take_line(input: i32, run: Run, line: &mut [u8], row: &mut [u8]) -> Extracting {
+fn take_line(
+    input: i32,
+    run: Run,
+    sidecar: Sidecar,
+    line: &mut [u8],
+    row: &mut [u8],
+) -> Extracting {
     let filled = console::fill(input, line);
-    turned(run, filled, line, row)
+    turned(run, sidecar, filled, line, row)
 }
 
 // Takes lines to the end of the input or the first refusal. An input that used the turns up would be unread.
-fn take_lines(input: i32, run: Run, line: &mut [u8], row: &mut [u8]) -> Extracting {
+fn take_lines(
+    input: i32,
+    run: Run,
+    sidecar: Sidecar,
+    line: &mut [u8],
+    row: &mut [u8],
+) -> Extracting {
     let is_shown = console::is_shown();
-    let mut at = open(run);
+    let mut at = open(run, sidecar);
     let mut turns = u64::MAX;
     while turns > 0 {
-        at = take_line(input, at.run, line, row);
+        at = take_line(input, at.run, at.sidecar, line, row);
         turns = console::turns_left(turns, at.done);
         let now = at.run;
         console::show_turn(is_shown, turns, now.walk);
@@ -106,14 +151,36 @@ fn come_to(at: Extracting) -> Read
     Read::unread(at.run)
 }
 
-// Writes the rows of a recording whose header was read, to standard output, up to its end or its first refusal.
-pub fn extract(input: i32, run: Run) -> Read {
+// Says that the packets file could not be written, where it could not.
+fn say_unpacked(status: Status, packets: &[u8]) {
+    match status {
+        Status::Failed => {
+            console::say_of(b"extract", packets);
+            os::fail(b" could not be written");
+        }
+        _ => {}
+    }
+}
+
+// Writes the rows of a recording whose header was read, to standard output, up to its end or its first refusal, with the packets of its lines
+// to the packets file of this name, where there is one; or lists these.
+pub fn extract(input: i32, run: Run, sidecar: Sidecar, packets: &[u8]) -> Extracted {
     if run.number != 0 {
-        return Read::ended(run);
+        return Extracted {
+            read: Read::ended(run),
+            sidecar,
+        };
     }
     let walk = run.walk;
     let size = walk.line_bytes();
     let mut line = [0u8; 2 * System625::LINE_LENGTH];
     let mut row = [0u8; v210::ROW_LENGTH];
-    come_to(take_lines(input, run, &mut line[0..size], &mut row))
+    let at = take_lines(input, run, sidecar, &mut line[0..size], &mut row);
+    let status = at.status;
+    let beside = at.sidecar;
+    say_unpacked(status, packets);
+    Extracted {
+        read: come_to(at),
+        sidecar: beside,
+    }
 }

@@ -18,6 +18,7 @@ use Rattle.system.specs.declared.System.{System}
 use Rattle.system.specs.declared.System.the-variants.{Lines525, Lines625}
 use Rattle.system.specs.declared.due.Due.{Due}
 use Rattle.system.specs.declared.walk.Walk.{Walk}
+use Rattle.system.specs.declared.walk.PacketWords.{PacketWords}
 use Rattle.system.specs.declared.walk.Judgement.{Judgement}
 use Rattle.system.specs.Figures.{lineLength, savOffset, activeOffset, lineCount, between, isSystem, systemOf, nextLine}
 use Rattle.system.specs.Due.{dueOf, flag, flagsOf}
@@ -203,20 +204,20 @@ unfolding flagsOf
 flags-low d h = omega (arith, flag-low (d .f), flag-low (d .v), flag-low h)
 
 -- ---- a judgement by its refusal: it has the refusal's number, and where that is 0 it is that of an accepted line
-module _ (r : Refusal) (w : Walk) (d : Due) (report : Report) where
-  pub judgement-accepted : r .number ≡ 0 → judgementOf r w d report ≡ acceptedAt w d report
+module _ (r : Refusal) (w : Walk) (d : Due) (report : Report) (packets : PacketWords) where
+  pub judgement-accepted : r .number ≡ 0 → judgementOf r w d report packets ≡ acceptedAt w d report packets
   unfolding judgementOf
   judgement-accepted z = simp (eq-eqb _ _ z)
 
-  pub judgement-refused : (r .number ≡ 0 → ⊥) → judgementOf r w d report ≡ refusedAt w r
+  pub judgement-refused : (r .number ≡ 0 → ⊥) → judgementOf r w d report packets ≡ refusedAt w r
   unfolding judgementOf
   judgement-refused n = simp (ne-eqb _ _ n)
 
-  pub judgement-number : judgementOf r w d report .number ≡ r .number
+  pub judgement-number : judgementOf r w d report packets .number ≡ r .number
   judgement-number =
       by-test (eqb (r .number) 0)
       (λ t. let z = eqb-true _ _ t in ap (λ (j : Judgement). j .number) (judgement-accepted z) ∙ sym z)
       (λ f. ap (λ (j : Judgement). j .number) (judgement-refused (eqb-false _ _ f)))
 
-  pub judgement-well : judgementOf r w d report .number ≡ 0 → judgementOf r w d report ≡ acceptedAt w d report
+  pub judgement-well : judgementOf r w d report packets .number ≡ 0 → judgementOf r w d report packets ≡ acceptedAt w d report packets
   judgement-well z = judgement-accepted (sym judgement-number ∙ z)

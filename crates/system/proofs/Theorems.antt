@@ -17,6 +17,7 @@ use Rattle.timing.specs.declared.Report.{Report}
 use Rattle.system.specs.declared.System.the-variants.{Lines525, Lines625}
 use Rattle.system.specs.declared.walk.Walk.{Walk}
 use Rattle.system.specs.declared.walk.Fresh.{Fresh}
+use Rattle.system.specs.declared.walk.PacketWords.{PacketWords}
 use Rattle.system.specs.declared.walk.Judgement.{Judgement}
 use Rattle.system.specs.declared.due.Due.{Due}
 use Rattle.system.specs.Figures.{systemNumber, lineCount, isSystem, systemOf}
@@ -133,5 +134,6 @@ moved-one-result w d report r s e f = e ∙ sym f
 pub refused-one-result : (w : Walk) (refusal : Refusal) (r s : Judgement) → r ≡ refusedAt w refusal → s ≡ refusedAt w refusal → r ≡ s
 refused-one-result w refusal r s e f = e ∙ sym f
 
-pub accepted-one-result : (w : Walk) (d : Due) (report : Report) (r s : Judgement) → r ≡ movedAt w d report → s ≡ movedAt w d report → r ≡ s
-accepted-one-result w d report r s e f = e ∙ sym f
+pub accepted-one-result : (w : Walk) (d : Due) (report : Report) (packets : PacketWords) (r s : Judgement)
+    → r ≡ movedAt w d report packets → s ≡ movedAt w d report packets → r ≡ s
+accepted-one-result w d report packets r s e f = e ∙ sym f

@@ -6,6 +6,7 @@ pub use due::Due;
 pub use due::FillWords;
 pub use walk::Fresh;
 pub use walk::Judgement;
+pub use walk::PacketWords;
 pub use walk::Walk;
 pub use walk::fresh_walk;
 pub use walk::repairs;

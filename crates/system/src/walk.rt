@@ -159,16 +159,30 @@ impl Walk {
     }
 }
 
-// The answer to a line: its number and place, what is told of its two codes, and the walk after it.
+// How many words are packets: of the space between EAV and SAV, and of the active part.
+pub struct PacketWords {
+    pub between: usize,
+    pub active: usize,
+}
+
+impl PacketWords {
+    pub const NONE: PacketWords = PacketWords {
+        between: 0,
+        active: 0,
+    };
+}
+
+// The answer to a line: its number and place, what is told of its two codes, the walk after it, and its packets.
 pub struct Judgement {
     pub number: u32,
     pub place: usize,
     pub report: Report,
     pub walk: Walk,
+    pub packets: PacketWords,
 }
 
 impl Judgement {
-    // The answer to a refused line: the walk stands and both codes are told as clean.
+    // The answer to a refused line: the walk stands, both codes are told as clean, and no word is told as a packet's.
     pub fn refused(walk: Walk, refusal: Refusal) -> Judgement
         ensures { λ r. ⌜ r ≡ refusedAt walk refusal ⌝ }
     {
@@ -181,18 +195,20 @@ impl Judgement {
             place: refusal.place,
             report: clean,
             walk,
+            packets: PacketWords::NONE,
         }
     }
 
-    // The answer to an accepted line in which this was due, with this report.
-    pub fn accepted(walk: Walk, due: Due, report: Report) -> Judgement
-        ensures { λ r. ⌜ r ≡ movedAt walk due report ⌝ }
+    // The answer to an accepted line in which this was due, with this report and these packets.
+    pub fn accepted(walk: Walk, due: Due, report: Report, packets: PacketWords) -> Judgement
+        ensures { λ r. ⌜ r ≡ movedAt walk due report packets ⌝ }
     {
         Judgement {
             number: 0,
             place: 0,
             report,
             walk: walk.moved(due, report),
+            packets,
         }
     }
 }

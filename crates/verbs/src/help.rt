@@ -6,6 +6,7 @@ pub(crate) enum Verb {
     Confirm,
     Record,
     Extract,
+    Packets,
     Scramble,
     Descramble,
     Help,
@@ -22,6 +23,9 @@ pub(crate) fn named(name: &[u8]) -> Verb {
     }
     if same(name, b"extract") {
         return Verb::Extract;
+    }
+    if same(name, b"packets") {
+        return Verb::Packets;
     }
     if same(name, b"scramble") {
         return Verb::Scramble;
@@ -52,15 +56,16 @@ pub(crate) fn print_usage(output: i32, verb: &[u8]) -> bool {
         Verb::Confirm => form(output, b"confirm [FILE | FOLDER]..\n"),
         Verb::Record => form(
             output,
-            b"record [--into FOLDER [--frames N]] SYSTEM START\n",
+            b"record [--into FOLDER [--frames N]] [--packets FILE] SYSTEM START\n",
         ),
-        Verb::Extract => form(output, b"extract [FILE | FOLDER]\n"),
+        Verb::Extract => form(output, b"extract [--packets FILE] [FILE | FOLDER]\n"),
+        Verb::Packets => form(output, b"packets [FILE | FOLDER]\n"),
         Verb::Scramble => form(output, b"scramble\n"),
         Verb::Descramble => form(output, b"descramble\n"),
         Verb::Help => form(output, b"help [VERB]\n"),
         Verb::None => form(
             output,
-            b"confirm | record | extract | scramble | descramble | help ..\n",
+            b"confirm | record | extract | packets | scramble | descramble | help ..\n",
         ),
     }
 }
@@ -73,6 +78,7 @@ fn print_general() -> bool {
     line(b"  confirm      whether recordings read as programmes that were written")
         & line(b"  record       v210 rows into a recording, or into a row of them in a folder")
         & line(b"  extract      the v210 rows of a recording")
+        & line(b"  packets      a list of the ancillary packets in a recording")
         & line(b"  scramble     words as they go over the serial channel")
         & line(b"  descramble   the words that scramble was given")
         & line(b"  help [VERB]  this text, or a verb's")
@@ -93,13 +99,25 @@ fn print_record() -> bool {
         & line(b"line order: 487 a frame of 525, 576 of 625. A recording has at most 10000000")
         & line(b"lines: 10 minutes 40 seconds of 625, 10 minutes 35 seconds of 525. With --into")
         & line(b"the next goes on by itself: FOLDER/0001.rec and so on, cut between frames,")
-        & line(b"with --frames after at most N of them.")
+        & line(b"with --frames after at most N of them. With --packets each line gets the packets")
+        & line(b"that FILE has for it, as extract --packets writes it, and after the last row")
+        & line(b"lines go on as far as packets need. What FILE has for no line is refused.")
 }
 
 fn print_extract() -> bool {
     line(b"Writes the v210 rows of the V = 0 lines to standard output, up to the first")
         & line(b"refusal, and says what confirm says on standard error. With no name it reads")
-        & line(b"standard input. A folder is one programme, in recordings 0001.rec and on.")
+        & line(b"standard input. A folder is one programme, in recordings 0001.rec and on. With")
+        & line(b"--packets the ancillary packets of all lines, captions among them, go to FILE,")
+        & line(b"which is made; one that holds something is not touched.")
+}
+
+fn print_packets() -> bool {
+    line(b"Lists the ancillary packets of a recording, a line of text for each:")
+        & line(b"    0 21 between 61 01 73")
+        & line(b"The line's ordinal from 0 and its number, the space (between EAV and SAV, or")
+        & line(b"active part), the two identifiers in hexadecimal, the count of user words. It")
+        & line(b"reads as extract does, and says what confirm says on standard error.")
 }
 
 fn print_coder() -> bool {
@@ -112,6 +130,7 @@ fn print_text(verb: &[u8]) -> bool {
         Verb::Confirm => print_confirm(),
         Verb::Record => print_record(),
         Verb::Extract => print_extract(),
+        Verb::Packets => print_packets(),
         Verb::Scramble => print_coder(),
         Verb::Descramble => print_coder(),
         _ => print_general(),

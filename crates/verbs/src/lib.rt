@@ -1,7 +1,9 @@
 // The command's verbs, and what is said of their use. What comes of them is up to the system, so no contract can determine it.
 mod arguments;
+mod beside;
 mod filters;
 mod help;
+mod options;
 mod recordings;
 mod tally;
 mod wrong;
@@ -52,6 +54,7 @@ fn run_verb(verb: &[u8]) -> u32 {
         Verb::Confirm => recordings::confirm(),
         Verb::Record => filters::record(),
         Verb::Extract => recordings::extract(),
+        Verb::Packets => recordings::packets(),
         Verb::Scramble => filters::code(verb, b"words", true),
         Verb::Descramble => filters::code(verb, b"channel words", false),
         _ => say_help(),

@@ -3,6 +3,8 @@ use confirmation::Run;
 use confirmation::Totals;
 use console::Read;
 use console::Status;
+use station::Extracted;
+use station::Sidecar;
 
 // What is done with recordings: confirming or extracting, and the descriptor for their lines.
 pub(crate) struct Task {
@@ -10,11 +12,13 @@ pub(crate) struct Task {
     pub(crate) rows: i32,
 }
 
-// The sums and the worst status so far, the run before, whether there is more to do, and whether the lines could be written.
+// The sums and the worst status so far, the run before, what is kept beside the rows, whether there is more to do, and whether the lines could
+// be written.
 pub(crate) struct Tally {
     pub(crate) totals: Totals,
     pub(crate) status: u32,
     pub(crate) before: Run,
+    pub(crate) sidecar: Sidecar,
     pub(crate) is_open: bool,
     pub(crate) is_written: bool,
 }
@@ -32,11 +36,12 @@ fn worse(status: u32, other: u32) -> u32 {
 }
 
 impl Tally {
-    pub(crate) fn none() -> Tally {
+    pub(crate) fn none(sidecar: Sidecar) -> Tally {
         Tally {
             totals: Totals::none(),
             status: 0,
             before: no_run(),
+            sidecar,
             is_open: true,
             is_written: true,
         }
@@ -97,14 +102,29 @@ impl Tally {
     }
 
     // With a recording more, however it ended.
-    pub(crate) fn with_read(self, task: Task, verb: &[u8], name: &[u8], read: Read) -> Tally {
+    fn with_read(self, task: Task, verb: &[u8], name: &[u8], read: Read) -> Tally {
         let status = read.status;
         status.say_failure(verb, name);
         match status {
             Status::Unread => self.with_unread(task, verb, name),
             Status::Unwritten => self.broken(),
+            Status::Failed => self.broken(),
             _ => self.with_run(task, verb, name, read.run),
         }
+    }
+
+    // The same with what is kept beside its rows.
+    pub(crate) fn with_extracted(
+        self,
+        task: Task,
+        verb: &[u8],
+        name: &[u8],
+        extracted: Extracted,
+    ) -> Tally {
+        let sidecar = extracted.sidecar;
+        let mut next = self;
+        next.sidecar = sidecar;
+        next.with_read(task, verb, name, extracted.read)
     }
 
     // Writes the sums, and answers the exit status.

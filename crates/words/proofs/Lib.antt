@@ -3,3 +3,4 @@ pub mod Stores
 pub mod Over
 pub mod Bytes
 pub mod Theorems
+pub mod Passes

@@ -21,6 +21,13 @@ tab n f = tabFrom f 0 n
 abbrev pub mostWord : ℕ
 mostWord = 1023
 
+-- "A sample is 4 to 1019; 0 to 3 and 1020 to 1023 are reserved."
+abbrev pub leastSample : ℕ
+leastSample = 4
+
+abbrev pub mostSample : ℕ
+mostSample = 1019
+
 -- a number over its most is 5
 abbrev pub faultOver : ℕ → ℕ → ℕ
 faultOver most n = cond (ltb most n) overTen 0

@@ -1,15 +1,29 @@
 // Words: ten bits, 0 to 1023, held in 16; and words as bytes, two per word, low byte first.
 ghost use mathlib.Core.Path.{_≡_};
+ghost use mathlib.Core.Bool.{_||_};
 ghost use Prim.Native.Nat.{ℕ, _+_, _*_, _/_, _%_, _<_, _≤_};
+ghost use lib.Dec.{ltb};
 ghost use lib.ListN.{length, getD};
 ghost use Rattle.refusal.specs.Answer.{writtenBy};
-ghost use Rattle.words.specs.Words.{tab, overRefusal};
+ghost use Rattle.words.specs.Words.{tab, leastSample, mostSample, overRefusal};
 ghost use Rattle.words.specs.Bytes.{wordOfBytes, wordsOf, bytesOf, pairsRefusal};
 use refusal::Number;
 use refusal::Refusal;
 
 // The highest word of ten bits.
 pub const MOST_WORD: u16 = 1023;
+
+// A sample is 4 to 1019.
+pub const LEAST_SAMPLE: u16 = 4;
+
+pub const MOST_SAMPLE: u16 = 1019;
+
+// Whether a word is none of the samples 4 to 1019.
+pub fn reserved(word: u16) -> bool
+    ensures { λ r. ⌜ r ≡ (ltb word leastSample || ltb mostSample word) ⌝ }
+{
+    (word < LEAST_SAMPLE) | (MOST_SAMPLE < word)
+}
 
 // 5 at the first word over 1023, or number 0. The search is for the place only: all words are judged at once before it.
 pub fn first_over(words: &[u16]) -> Refusal

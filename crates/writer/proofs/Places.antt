@@ -11,10 +11,10 @@ use Rattle.refusal.specs.Answer.{none, firstFrom}
 use Rattle.refusal.proofs.Cases.{by-cond, by-test}
 use Rattle.refusal.proofs.Firsts.{first-none, first-none-back}
 use Rattle.system.specs.declared.due.Due.{Due}
-use Rattle.line.specs.Fault.{leastSample, mostSample}
+use Rattle.words.specs.Words.{leastSample, mostSample}
 use Rattle.line.specs.Samples.{Samples, activeLength, yLength, cLength, sampleAt}
 use Rattle.line.specs.Fit.{Inside}
-use Rattle.line.proofs.Faults.{not-reserved}
+use Rattle.words.proofs.Passes.{not-reserved}
 use Rattle.line.proofs.Places.{sample-y, sample-cb, sample-cr}
 use Rattle.writer.specs.Write.{outsideAt, sampleRefusal}
 

@@ -1,135 +1,186 @@
 -- The promises on writing a line, of the definitions that the calls' contracts cite. Assumes nothing.
 use Prim.Native.Nat.{ℕ}
-use mathlib.Core.Path.{_≡_, sym, ap, _∙_}
-use mathlib.Core.Bool.{not}
-use mathlib.Core.List.{List}
-use lib.Dec.{eqb}
+use mathlib.Core.Path.{_≡_, refl, sym, ap, _∙_}
+use mathlib.Core.List.{List, []}
+use native.Mathlib.Omega.{arith}
+use lib.Dec.{ltb}
 use lib.ListN.{length}
+use borrow.Author.Tests.{ltb-true, ltb-false}
 use Rattle.refusal.specs.declared.Refusal.{Refusal}
 use Rattle.refusal.specs.Numbers.{wrongLength, outside}
-use Rattle.refusal.specs.Answer.{refuse, writtenBy}
+use Rattle.refusal.specs.Answer.{none, writtenBy, firstFrom}
 use Rattle.refusal.specs.Table.{Decides, Keeps}
+use Rattle.refusal.proofs.Cases.{by-test}
 use Rattle.refusal.proofs.Firsts.{orElse-accepted, orElse-none, same-number, written-accepted, written-refused}
 use Rattle.refusal.proofs.Tables.{keeps-unequal, keeps-before, keeps-last, decides-when, decides-before, decides-lowest}
-use Rattle.words.proofs.Tabs.{length-tab}
+use Rattle.words.proofs.Tabs.{same-tab}
+use Rattle.packets.specs.Fault.{readyRefusal}
+use Rattle.packets.proofs.Exact.{ready-exact, ready-decides}
 use Rattle.system.specs.declared.due.Due.{Due}
-use Rattle.system.specs.Figures.{lineLength, systemOf}
+use Rattle.system.specs.Figures.{lineLength, activeOffset, systemOf}
 use Rattle.system.specs.Due.{dueOf}
 use Rattle.system.specs.Walk.{namedRefusal}
-use Rattle.system.proofs.Laws.{named-accepted, accepted-named}
+use Rattle.system.proofs.Laws.{sav-low, named-accepted, accepted-named}
 use Rattle.system.proofs.Theorems.{named-exact, named-decides}
+use Rattle.line.specs.Fault.{betweenOffset}
 use Rattle.line.specs.Lengths.{lengthRefusal}
-use Rattle.line.specs.Samples.{Samples, activeLength, wordAt, lineOf, partSamples}
+use Rattle.line.specs.Samples.{Samples, Packets, Content, activeLength, bareAt, bareOf, nothingReady, laidAt, writtenAt, lineOf, partSamples}
 use Rattle.line.proofs.Lengths.{measured-accepted, accepted-measured}
-use Rattle.line.proofs.Theorems.{length-exact, buffer-exact, buffer-decides}
+use Rattle.line.proofs.Writing.{laid-below, laid-behind, line-length}
+use Rattle.line.proofs.Theorems.{length-exact, buffer-exact, buffer-decides, room-exact, room-decides}
 use Rattle.writer.specs.Fit.{Writable}
-use Rattle.writer.specs.Refusals.{sampleRefusals, dueRefusals, partRefusals, writeRefusals}
-use Rattle.writer.specs.Write.{sampleRefusal, dueRefusal, partRefusal, writeRefusal, lineAfter}
+use Rattle.writer.specs.Refusals.{sampleRefusals, packetsRefusals, dueRefusals, partRefusals, writeRefusals}
+use Rattle.writer.specs.Write.{sampleRefusal, packetsRefusal, dueRefusal, partRefusal, partContent, writeRefusal, lineAfter}
 use Rattle.writer.proofs.Places.{inside-accepted, accepted-inside}
-use Rattle.writer.proofs.Laws.{samples-exact, buffersRefusal, due-samples, due-passed}
+use Rattle.writer.proofs.Laws.{samples-exact, lengthsRefusal, betweenRefusal, activeRefusal, carried-accepted, buffersRefusal, due-samples, due-passed, longRefusal}
 
 -- ---- Each refusal comes exactly when its condition holds and none earlier in the document's order does, and that leaves one answer.
 
--- by what is due in the line: "3, then 12 at the lowest place", where V is 0
+-- by what is due in the line: 3, the ready packet words, and "12 at the lowest place", where V is 0
 module _ (d : Due) where
   samples-decide : (p : Samples) → Decides (sampleRefusals d p)
   samples-decide p = decides-lowest activeLength _ (λ place. decides-when _ outside place)
 
-  module _ (p : Samples) (room : ℕ) where
-    pub due-exact : Keeps (dueRefusals d p room) (dueRefusal d p room)
+  module _ (k : Packets) where
+    pub packets-exact : Keeps (packetsRefusals d k) (packetsRefusal d k)
+    unfolding packetsRefusal
+    packets-exact =
+        keeps-before _ _ (lengthsRefusal d k) _ (room-exact d (length (k .between)) (length (k .active)))
+        (keeps-before _ _ (betweenRefusal d k) _ (ready-exact betweenOffset (k .between))
+        (keeps-last _ (activeRefusal d k) (ready-exact (activeOffset (d .system)) (k .active))))
+
+    pub packets-decide : Decides (packetsRefusals d k)
+    packets-decide =
+        decides-before _ _ (room-decides d (length (k .between)) (length (k .active)))
+        (decides-before _ _ (ready-decides betweenOffset (k .between)) (ready-decides (activeOffset (d .system)) (k .active)))
+
+  module _ (c : Content) (room : ℕ) where
+    pub due-exact : Keeps (dueRefusals d c room) (dueRefusal d c room)
     unfolding dueRefusal
     due-exact =
         keeps-before _ _ (lengthRefusal (d .system) room) _ (length-exact (d .system) room)
-        (keeps-before _ _ (buffersRefusal d p room) _ (buffer-exact (length (p .y)) (length (p .cb)) (length (p .cr)))
-        (keeps-last _ (sampleRefusal d p) (samples-exact d p)))
+        (keeps-before _ _ (buffersRefusal d c room) _
+        (buffer-exact (length (c .samples .y)) (length (c .samples .cb)) (length (c .samples .cr)))
+        (keeps-before _ _ (packetsRefusal d (c .packets)) _ (packets-exact (c .packets))
+        (keeps-last _ (sampleRefusal d (c .samples)) (samples-exact d (c .samples)))))
 
-    pub due-decides : Decides (dueRefusals d p room)
+    pub due-decides : Decides (dueRefusals d c room)
     due-decides =
         decides-before _ _ (decides-when (room ≡ lineLength (d .system) → ⊥) wrongLength 0)
-        (decides-before _ _ (buffer-decides (length (p .y)) (length (p .cb)) (length (p .cr))) (samples-decide p))
+        (decides-before _ _ (buffer-decides (length (c .samples .y)) (length (c .samples .cb)) (length (c .samples .cr)))
+        (decides-before _ _ (packets-decide (c .packets)) (samples-decide (c .samples))))
 
-  module _ (part : List ℕ) (room : ℕ) where
-    pub part-exact : Keeps (partRefusals d part room) (partRefusal d part room)
+  module _ (part : List ℕ) (k : Packets) (room : ℕ) where
+    pub part-exact : Keeps (partRefusals d part k room) (partRefusal d part k room)
     unfolding partRefusal
     part-exact =
         keeps-before _ _ (lengthRefusal (d .system) room) _ (length-exact (d .system) room)
-        (keeps-before _ _ (refuse (not (eqb (length part) activeLength)) wrongLength 1) _ (keeps-unequal (length part) activeLength 1)
-        (keeps-last _ (sampleRefusal d (partSamples part)) (samples-exact d (partSamples part))))
+        (keeps-before _ _ (longRefusal d part k room) _ (keeps-unequal (length part) activeLength 1)
+        (keeps-before _ _ (packetsRefusal d k) _ (packets-exact k)
+        (keeps-last _ (sampleRefusal d (partSamples part)) (samples-exact d (partSamples part)))))
 
-    pub part-decides : Decides (partRefusals d part room)
+    pub part-decides : Decides (partRefusals d part k room)
     part-decides =
         decides-before _ _ (decides-when (room ≡ lineLength (d .system) → ⊥) wrongLength 0)
-        (decides-before _ _ (decides-when (length part ≡ activeLength → ⊥) wrongLength 1) (samples-decide (partSamples part)))
+        (decides-before _ _ (decides-when (length part ≡ activeLength → ⊥) wrongLength 1)
+        (decides-before _ _ (packets-decide k) (samples-decide (partSamples part))))
 
   -- Two results allowed for one input are the same: the answer and every word.
-  pub line-one-result : (p : Samples) (words : List ℕ) (r s : Refusal) (after other : List ℕ)
-      → r ≡ dueRefusal d p (length words) → after ≡ writtenBy r (lineOf d p) words
-      → s ≡ dueRefusal d p (length words) → other ≡ writtenBy s (lineOf d p) words
+  pub line-one-result : (c : Content) (words : List ℕ) (r s : Refusal) (after other : List ℕ)
+      → r ≡ dueRefusal d c (length words) → after ≡ writtenBy r (lineOf d c) words
+      → s ≡ dueRefusal d c (length words) → other ≡ writtenBy s (lineOf d c) words
       → (r ≡ s) × (after ≡ other)
-  line-one-result p words r s after other e f g h =
-      (e ∙ sym g, f ∙ ap (λ (x : Refusal). writtenBy x (lineOf d p) words) (e ∙ sym g) ∙ sym h)
+  line-one-result c words r s after other e f g h =
+      (e ∙ sym g, f ∙ ap (λ (x : Refusal). writtenBy x (lineOf d c) words) (e ∙ sym g) ∙ sym h)
 
-  pub part-one-result : (part words : List ℕ) (r s : Refusal) (after other : List ℕ)
-      → r ≡ partRefusal d part (length words) → after ≡ writtenBy r (lineOf d (partSamples part)) words
-      → s ≡ partRefusal d part (length words) → other ≡ writtenBy s (lineOf d (partSamples part)) words
+  pub part-one-result : (part : List ℕ) (k : Packets) (words : List ℕ) (r s : Refusal) (after other : List ℕ)
+      → r ≡ partRefusal d part k (length words) → after ≡ writtenBy r (lineOf d (partContent part k)) words
+      → s ≡ partRefusal d part k (length words) → other ≡ writtenBy s (lineOf d (partContent part k)) words
       → (r ≡ s) × (after ≡ other)
-  part-one-result part words r s after other e f g h =
-      (e ∙ sym g, f ∙ ap (λ (x : Refusal). writtenBy x (lineOf d (partSamples part)) words) (e ∙ sym g) ∙ sym h)
+  part-one-result part k words r s after other e f g h =
+      (e ∙ sym g, f ∙ ap (λ (x : Refusal). writtenBy x (lineOf d (partContent part k)) words) (e ∙ sym g) ∙ sym h)
 
--- by the line's number: "1, 2, 3, then 12 at the lowest place, on V = 0 lines only"
-module _ (system line : ℕ) (p : Samples) where
+  -- ---- A writer that is given no packet words writes what it wrote before there were any, and refuses nothing for them.
+  nothing-laid : (from : ℕ) (under : ℕ → ℕ) (i : ℕ) → laidAt [] from under i ≡ under i
+  nothing-laid from under i =
+      by-test (ltb i from)
+      (λ t. laid-below [] from under i (ltb-true i from t))
+      (λ f. let past = ltb-false i from f in laid-behind [] from under i (omega arith))
+
+  pub nothing-ready-as-before : (p : Samples) → lineOf d (record { samples = p; packets = nothingReady }) ≡ bareOf d p
+  unfolding lineOf bareOf
+  nothing-ready-as-before p =
+      same-tab (writtenAt d (record { samples = p; packets = nothingReady })) (bareAt d p) (lineLength (d .system))
+      (λ i l. nothing-laid (activeOffset (d .system)) (laidAt [] betweenOffset (bareAt d p)) i ∙ nothing-laid betweenOffset (bareAt d p) i)
+
+  pub nothing-ready-refuses-nothing : packetsRefusal d nothingReady ≡ none
+  unfolding readyRefusal firstFrom
+  nothing-ready-refuses-nothing =
+      carried-accepted d nothingReady
+      (record { between-room = omega (arith, sav-low (d .system)); active-room = omega arith; between-well = refl; active-well = refl })
+
+-- by the line's number: "1, 2, 3", the ready packet words, "then 12 at the lowest place, on V = 0 lines only"
+module _ (system line : ℕ) (c : Content) where
   module _ (room : ℕ) where
-    pub write-exact : Keeps (writeRefusals system line p room) (writeRefusal system line p room)
+    pub write-exact : Keeps (writeRefusals system line c room) (writeRefusal system line c room)
     unfolding writeRefusal
-    write-exact = keeps-before _ _ (namedRefusal system line) _ (named-exact system line) (due-exact (dueOf (systemOf system) line) p room)
+    write-exact = keeps-before _ _ (namedRefusal system line) _ (named-exact system line) (due-exact (dueOf (systemOf system) line) c room)
 
-    pub write-decides : Decides (writeRefusals system line p room)
-    write-decides = decides-before _ _ (named-decides system line) (due-decides (dueOf (systemOf system) line) p room)
+    pub write-decides : Decides (writeRefusals system line c room)
+    write-decides = decides-before _ _ (named-decides system line) (due-decides (dueOf (systemOf system) line) c room)
 
-    -- ---- A line is written exactly when the system, the line and the lengths are right and, where V is 0, each sample is from 4 to 1019.
-    written-fits : writeRefusal system line p room .number ≡ 0 → Writable system line p room
+    -- ---- A line is written exactly when the system, the line and the lengths are right, the ready packet words fit their spaces and are judged
+    -- well and, where V is 0, each sample is from 4 to 1019.
+    written-fits : writeRefusal system line c room .number ≡ 0 → Writable system line c room
     unfolding writeRefusal dueOf
     written-fits e =
         let d = dueOf (systemOf system) line in
         let both = orElse-none (namedRefusal system line) _ e in
         let named = accepted-named system line (both .0) in
-        let passed = due-passed d p room (both .1) in
+        let passed = due-passed d c room (both .1) in
         record {
           a-system = named .a-system;
           a-line = named .a-line;
           words = passed .words;
-          fit = record { lengths = accepted-measured p (passed .lengths); range = accepted-inside p d (passed .samples) };
+          fit = record {
+            lengths = accepted-measured (c .samples) (passed .lengths);
+            range = accepted-inside (c .samples) d (passed .samples);
+            packets = passed .packets;
+          };
         }
 
-    fitting-written : Writable system line p room → writeRefusal system line p room .number ≡ 0
+    fitting-written : Writable system line c room → writeRefusal system line c room .number ≡ 0
     unfolding writeRefusal dueOf
     fitting-written w =
         let d = dueOf (systemOf system) line in
         same-number
         (orElse-accepted (namedRefusal system line) _ (same-number (named-accepted system line (w .a-system) (w .a-line)))
-        ∙ sym (due-samples d p room (w .words) (same-number (measured-accepted p (w .fit .lengths)))) ∙ inside-accepted p d (w .fit .range))
+        ∙ sym (due-samples d c room (w .words) (same-number (measured-accepted (c .samples) (w .fit .lengths)))
+        (same-number (carried-accepted d (c .packets) (w .fit .packets))))
+        ∙ inside-accepted (c .samples) d (w .fit .range))
 
-    pub written-samples-fit : (writeRefusal system line p room .number ≡ 0 → Writable system line p room)
-        × (Writable system line p room → writeRefusal system line p room .number ≡ 0)
+    pub written-samples-fit : (writeRefusal system line c room .number ≡ 0 → Writable system line c room)
+        × (Writable system line c room → writeRefusal system line c room .number ≡ 0)
     written-samples-fit = (written-fits, fitting-written)
 
   module _ (words : List ℕ) where
     -- A refusal leaves the line as it was.
-    pub refused-writes-nothing : (writeRefusal system line p (length words) .number ≡ 0 → ⊥) → lineAfter system line p words ≡ words
+    pub refused-writes-nothing : (writeRefusal system line c (length words) .number ≡ 0 → ⊥) → lineAfter system line c words ≡ words
     unfolding lineAfter
-    refused-writes-nothing n = written-refused (writeRefusal system line p (length words)) _ words n
+    refused-writes-nothing n = written-refused (writeRefusal system line c (length words)) _ words n
 
     -- Otherwise the line is the one that is due, of the line's length.
-    pub accepted-writes-the-line : writeRefusal system line p (length words) .number ≡ 0
-        → (lineAfter system line p words ≡ lineOf (dueOf (systemOf system) line) p) × (length (lineAfter system line p words) ≡ lineLength (systemOf system))
-    unfolding lineAfter lineOf dueOf
+    pub accepted-writes-the-line : writeRefusal system line c (length words) .number ≡ 0
+        → (lineAfter system line c words ≡ lineOf (dueOf (systemOf system) line) c) × (length (lineAfter system line c words) ≡ lineLength (systemOf system))
+    unfolding lineAfter dueOf
     accepted-writes-the-line e =
-        let line-is : lineAfter system line p words ≡ lineOf (dueOf (systemOf system) line) p = written-accepted (writeRefusal system line p (length words)) _ words e in
-        (line-is, ap length line-is ∙ length-tab (wordAt (dueOf (systemOf system) line) p) (lineLength (systemOf system)))
+        let line-is : lineAfter system line c words ≡ lineOf (dueOf (systemOf system) line) c =
+        written-accepted (writeRefusal system line c (length words)) _ words e in
+        (line-is, ap length line-is ∙ line-length (dueOf (systemOf system) line) c)
 
     -- Two results allowed for one input are the same: the answer and every word.
     pub write-one-result : (r s : Refusal) (after other : List ℕ)
-        → r ≡ writeRefusal system line p (length words) → after ≡ lineAfter system line p words
-        → s ≡ writeRefusal system line p (length words) → other ≡ lineAfter system line p words
+        → r ≡ writeRefusal system line c (length words) → after ≡ lineAfter system line c words
+        → s ≡ writeRefusal system line c (length words) → other ≡ lineAfter system line c words
         → (r ≡ s) × (after ≡ other)
     write-one-result r s after other e f g h = (e ∙ sym g, f ∙ sym h)

@@ -7,7 +7,7 @@ use lib.ListN.{length, getD}
 use Rattle.system.specs.declared.due.Due.{Due}
 use Rattle.system.specs.Figures.{lineLength, activeOffset}
 use Rattle.line.specs.Offsets.{codeAt, fillAt}
-use Rattle.line.specs.Samples.{Samples, sampleAt, wordWhere, wordAt}
+use Rattle.line.specs.Samples.{Samples, sampleAt, wordWhere, bareAt, laidAt}
 
 -- what stores from one offset up to another leave: the words below as they were, and these words there
 pub record Put (word : ℕ → ℕ) (from to : ℕ) (before after : List ℕ) : Type 0 where
@@ -31,7 +31,12 @@ activeWord p at i = sampleAt p (i - at)
 abbrev pub partWord : List ℕ → ℕ → ℕ → ℕ
 partWord part at i = getD part (i - at) 0
 
+-- what laying words from an offset on leaves: these words there, and all others as they were
+pub record Laid (ready : List ℕ) (from : ℕ) (before after : List ℕ) : Type 0 where
+  pub size : length after ≡ length before
+  pub word : (i : ℕ) → i < length before → getD after i 0 ≡ laidAt ready from (λ k. getD before k 0) i
+
 -- EAV, the blanking between and SAV stand: the line's own words up to the active part
 pub record Blanked (d : Due) (p : Samples) (words : List ℕ) : Type 0 where
   pub size : length words ≡ lineLength (d .system)
-  pub there : (i : ℕ) → i < activeOffset (d .system) → getD words i 0 ≡ wordAt d p i
+  pub there : (i : ℕ) → i < activeOffset (d .system) → getD words i 0 ≡ bareAt d p i

@@ -7,28 +7,43 @@ use mathlib.Core.Logic.{_⊎_}
 use lib.ListN.{length}
 use Rattle.refusal.specs.Numbers.{wrongLength, outside}
 use Rattle.refusal.specs.Table.{Row, when, _before_, Lowest}
+use Rattle.packets.specs.Refusals.{readyRefusals}
 use Rattle.system.specs.declared.due.Due.{Due}
-use Rattle.system.specs.Figures.{systemOf}
+use Rattle.system.specs.Figures.{activeOffset, systemOf}
 use Rattle.system.specs.Due.{dueOf}
 use Rattle.system.specs.Refusals.{namedRefusals}
-use Rattle.line.specs.Fault.{leastSample, mostSample}
-use Rattle.line.specs.Lengths.{lengthRefusals, bufferRefusals}
-use Rattle.line.specs.Samples.{Samples, activeLength, sampleAt, partSamples}
+use Rattle.words.specs.Words.{leastSample, mostSample}
+use Rattle.line.specs.Fault.{betweenOffset}
+use Rattle.line.specs.Lengths.{lengthRefusals, bufferRefusals, roomRefusals}
+use Rattle.line.specs.Samples.{Samples, Packets, Content, activeLength, sampleAt, partSamples}
 
 -- "12 at the lowest place, on V = 0 lines only"
 abbrev pub sampleRefusals : Due → Samples → Row
 sampleRefusals d p =
     Lowest activeLength (λ place. when ((d .v ≡ false) × ((sampleAt p place < leastSample) ⊎ (mostSample < sampleAt p place))) outside place)
 
--- "3, then 12", by what is due in the line
-abbrev pub dueRefusals : Due → Samples → ℕ → Row
-dueRefusals d p room =
-    lengthRefusals (d .system) room before bufferRefusals (length (p .y)) (length (p .cb)) (length (p .cr)) before sampleRefusals d p
+-- ready packet words: "3, place 4 or 5; then they are judged", those of the space between first
+abbrev pub packetsRefusals : Due → Packets → Row
+packetsRefusals d k =
+    roomRefusals d (length (k .between)) (length (k .active))
+    before readyRefusals betweenOffset (k .between)
+    before readyRefusals (activeOffset (d .system)) (k .active)
 
-abbrev pub partRefusals : Due → List ℕ → ℕ → Row
-partRefusals d part room =
-    lengthRefusals (d .system) room before when (length part ≡ activeLength → ⊥) wrongLength 1 before sampleRefusals d (partSamples part)
+-- 3, the ready packet words, "and 12 comes last", by what is due in the line
+abbrev pub dueRefusals : Due → Content → ℕ → Row
+dueRefusals d c room =
+    lengthRefusals (d .system) room
+    before bufferRefusals (length (c .samples .y)) (length (c .samples .cb)) (length (c .samples .cr))
+    before packetsRefusals d (c .packets)
+    before sampleRefusals d (c .samples)
 
--- "1, 2, 3, then 12 at the lowest place, on V = 0 lines only"
-abbrev pub writeRefusals : ℕ → ℕ → Samples → ℕ → Row
-writeRefusals system line p room = namedRefusals system line before dueRefusals (dueOf (systemOf system) line) p room
+abbrev pub partRefusals : Due → List ℕ → Packets → ℕ → Row
+partRefusals d part k room =
+    lengthRefusals (d .system) room
+    before when (length part ≡ activeLength → ⊥) wrongLength 1
+    before packetsRefusals d k
+    before sampleRefusals d (partSamples part)
+
+-- "1, 2, 3", the ready packet words, "then 12 at the lowest place, on V = 0 lines only"
+abbrev pub writeRefusals : ℕ → ℕ → Content → ℕ → Row
+writeRefusals system line c room = namedRefusals system line before dueRefusals (dueOf (systemOf system) line) c room

@@ -1,5 +1,6 @@
-// Writing a line by what is due in it: of samples, or of a whole active part.
+// Writing a line by what is due in it: of samples, or of a whole active part, and of ready packet words.
 mod part;
+mod ready;
 
 pub use part::write_part;
 ghost use mathlib.Core.Path.{_≡_};
@@ -8,58 +9,81 @@ ghost use Prim.Native.Nat.{_+_, _%_, _≤_, _<_};
 ghost use lib.ListN.{length};
 ghost use Rattle.refusal.specs.Answer.{firstFrom, writtenBy};
 ghost use Rattle.system.specs.Figures.{lineLength};
-ghost use Rattle.line.specs.Samples.{Samples, activeLength, sampleAt, lineOf};
+ghost use Rattle.line.specs.Samples.{Samples, activeLength, sampleAt, bareOf, lineOf};
 ghost use Rattle.line.specs.Fit.{Measured, Inside};
 ghost use Rattle.writer.specs.Passes.{Put, Blanked, codeWord, fillWord, activeWord};
 ghost use Rattle.writer.specs.Write.{outsideAt, sampleRefusal, dueRefusal, writeRefusal, lineAfter};
-use line::LEAST_SAMPLE;
-use line::MOST_SAMPLE;
+use crate::ready::packets_refusal;
+use crate::ready::put_packets;
 use line::buffer_refusal;
-use line::reserved;
 use refusal::Number;
 use refusal::Refusal;
 use system::Due;
 use system::named_refusal;
 use system::system_of;
 use timing::fourth;
+use words::LEAST_SAMPLE;
+use words::MOST_SAMPLE;
 use words::MOST_WORD;
+use words::reserved;
 
-// Writes the line with this number: 1, 2, 3, then 12 at the lowest place of the active part, on V = 0 lines only.
-// On V = 1 lines the samples are measured but not looked at, and fill is written. A refusal leaves the line as it was.
+// Writes the line with this number: 1, 2, 3, what is wrong with the ready packet words of the space between and of the active part, and then 12
+// at the lowest place of the active part, on V = 0 lines only. On V = 1 lines the samples are measured but not looked at. Behind the packets
+// fill is written. A refusal leaves the line as it was.
 pub fn write(
     system: u32,
     line: u32,
     y: &[u16],
     cb: &[u16],
     cr: &[u16],
+    between: &[u16],
+    active: &[u16],
     words: &mut [u16],
 ) -> Refusal
-    ensures answer { λ r. ⌜ r ≡ writeRefusal system line (record { y = now (y .entry); cb = now (cb .entry); cr = now (cr .entry) }) (length (now (words .entry))) ⌝ }
-    ensures words { λ r. ⌜ now (words .exit) ≡ lineAfter system line (record { y = now (y .entry); cb = now (cb .entry); cr = now (cr .entry) }) (now (words .entry)) ⌝ }
+    ensures answer { λ r. ⌜ r ≡ writeRefusal system line (record { samples = record { y = now (y .entry); cb = now (cb .entry); cr = now (cr .entry) }; packets = record { between = now (between .entry); active = now (active .entry) } }) (length (now (words .entry))) ⌝ }
+    ensures words { λ r. ⌜ now (words .exit) ≡ lineAfter system line (record { samples = record { y = now (y .entry); cb = now (cb .entry); cr = now (cr .entry) }; packets = record { between = now (between .entry); active = now (active .entry) } }) (now (words .entry)) ⌝ }
 {
     let named = named_refusal(system, line);
     if named.number != 0 {
         return named;
     }
-    write_line(Due::of(system_of(system), line), y, cb, cr, words)
+    let due = Due::of(system_of(system), line);
+    write_line(due, y, cb, cr, between, active, words)
 }
 
-// Writes the line in which this is due, by whatever number it has: 3, then 12.
-pub fn write_line(due: Due, y: &[u16], cb: &[u16], cr: &[u16], words: &mut [u16]) -> Refusal
-    ensures answer { λ r. ⌜ r ≡ dueRefusal due (record { y = now (y .entry); cb = now (cb .entry); cr = now (cr .entry) }) (length (now (words .entry))) ⌝ }
-    ensures words { λ r. ⌜ now (words .exit) ≡ writtenBy r (lineOf due (record { y = now (y .entry); cb = now (cb .entry); cr = now (cr .entry) })) (now (words .entry)) ⌝ }
+// Writes the line in which this is due, by whatever number it has: 3, the ready packet words, then 12.
+pub fn write_line(
+    due: Due,
+    y: &[u16],
+    cb: &[u16],
+    cr: &[u16],
+    between: &[u16],
+    active: &[u16],
+    words: &mut [u16],
+) -> Refusal
+    ensures answer { λ r. ⌜ r ≡ dueRefusal due (record { samples = record { y = now (y .entry); cb = now (cb .entry); cr = now (cr .entry) }; packets = record { between = now (between .entry); active = now (active .entry) } }) (length (now (words .entry))) ⌝ }
+    ensures words { λ r. ⌜ now (words .exit) ≡ writtenBy r (lineOf due (record { samples = record { y = now (y .entry); cb = now (cb .entry); cr = now (cr .entry) }; packets = record { between = now (between .entry); active = now (active .entry) } })) (now (words .entry)) ⌝ }
 {
-    let refusal = due_refusal(due, y, cb, cr, words.len());
+    let refusal = due_refusal(due, y, cb, cr, between, active, words.len());
     if refusal.number != 0 {
         return refusal;
     }
     put_line(due, y, cb, cr, words);
+    put_packets(due, between, active, words);
     refusal
 }
 
-// All that refuses, before the first store: 3, then 12.
-fn due_refusal(due: Due, y: &[u16], cb: &[u16], cr: &[u16], room: usize) -> Refusal
-    ensures { λ r. ⌜ r ≡ dueRefusal due (record { y = now (y .entry); cb = now (cb .entry); cr = now (cr .entry) }) room ⌝ }
+// All that refuses, before the first store: 3, the ready packet words, then 12.
+fn due_refusal(
+    due: Due,
+    y: &[u16],
+    cb: &[u16],
+    cr: &[u16],
+    between: &[u16],
+    active: &[u16],
+    room: usize,
+) -> Refusal
+    ensures { λ r. ⌜ r ≡ dueRefusal due (record { samples = record { y = now (y .entry); cb = now (cb .entry); cr = now (cr .entry) }; packets = record { between = now (between .entry); active = now (active .entry) } }) room ⌝ }
 {
     let system = due.system;
     if room != system.line_length() {
@@ -71,6 +95,10 @@ fn due_refusal(due: Due, y: &[u16], cb: &[u16], cr: &[u16], room: usize) -> Refu
     let lengths = buffer_refusal(y.len(), cb.len(), cr.len());
     if lengths.number != 0 {
         return lengths;
+    }
+    let packets = packets_refusal(due, between, active);
+    if packets.number != 0 {
+        return packets;
     }
     sample_refusal(due, y, cb, cr)
 }
@@ -156,10 +184,10 @@ fn sample_at(y: &[u16], cb: &[u16], cr: &[u16], place: usize) -> u16
     cr[place / 4]
 }
 
-// Writes the line part by part: EAV, fill, SAV, and the active part, which is fill where V is 1.
+// Writes the line without packets part by part: EAV, fill, SAV, and the active part, which is fill where V is 1.
 fn put_line(due: Due, y: &[u16], cb: &[u16], cr: &[u16], words: &mut [u16])
     requires { ⌜ Measured (record { y = now y; cb = now cb; cr = now cr }) × (length (now words) ≡ lineLength (due .system)) ⌝ }
-    ensures { λ _. ⌜ now (words .exit) ≡ lineOf due (record { y = now (y .entry); cb = now (cb .entry); cr = now (cr .entry) }) ⌝ }
+    ensures { λ _. ⌜ now (words .exit) ≡ bareOf due (record { y = now (y .entry); cb = now (cb .entry); cr = now (cr .entry) }) ⌝ }
 {
     put_blanking(due, words);
     let system = due.system;

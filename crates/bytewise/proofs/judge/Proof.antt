@@ -86,11 +86,16 @@ accepted-requires c κs = search needs
 
 returns-2 : tie.Need-returns-2
 returns-2 c =
-    let a = c .before .before .before .before .before .before .before .before .before .before .before .before .before .before .args in
-    let s = c .before .before .before .before .before .before .before .before .before .before .before in
+    let well = c .before .before .before in
+    let found = well .before in
+    let d = found .before .before in
+    let past = d .before .before .before .before in
+    let s = past .before .before in
+    let a = s .before .before .before .args in
     c .accepted .ensures
-    ∙ sym (judged-well (a .walk) (now (a .bytes)) (stands (a .walk) (now (a .bytes)) _ (s .before .line-bytes .ensures .0) _ (s .standing .ensures) (c .before .before .before .before .before .before .before .before .before .if1 .left)) _ _ (c .before .before .before .before .before .before .word-of .ensures) (c .before .before .before .before .before .due .ensures) (c .before .before .before .before .of .result)
-    _ (c .before .report .ensures) (c .before .before .before .before .of .ensures) (c .before .before .before .all-well .ensures (c .before .before .if2 .taken)))
+    ∙ sym (judged-well (a .walk) (now (a .bytes)) (stands (a .walk) (now (a .bytes)) _ (s .before .line-bytes .ensures .0) _ (s .standing .ensures) (past .if1 .left))
+    _ _ (d .before .word-of .ensures) (d .due .ensures) (found .before .of .result) _ _ (c .before .report .ensures) (found .before .of .ensures)
+    (found .all-well .ensures (well .if2 .taken)))
 
 line-words-requires : tie.Need-line-words-requires
 line-words-requires c κs = search needs

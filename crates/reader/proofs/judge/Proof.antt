@@ -1,6 +1,6 @@
 -- `reader::judge` meets its contract: each refusal in its turn, by the laws of the judgement. Assumes nothing.
 use Prim.Native.Nat.{ℕ, _<_}
-use mathlib.Core.Path.{_≡_, sym, ap, _∙_}
+use mathlib.Core.Path.{_≡_, sym, ap, ap₂, _∙_}
 use mathlib.Core.List.{List}
 use native.Mathlib.Omega.{arith}
 use denote.Ref.{now}
@@ -10,11 +10,12 @@ use Rattle.refusal.proofs.Firsts.{same-number}
 use Rattle.timing.specs.declared.Report.{Report}
 use Rattle.system.specs.declared.due.Due.{Due}
 use Rattle.system.specs.declared.walk.Walk.{Walk}
+use Rattle.system.specs.declared.walk.PacketWords.{PacketWords}
 use Rattle.system.specs.Figures.{lineLength, systemOf}
 use Rattle.system.specs.Walk.{standingRefusal, lineWords, dueIn}
 use Rattle.system.specs.Judgement.{refusedAt, movedAt}
 use Rattle.system.proofs.Laws.{line-is-parts, due-system, accepted-stood}
-use Rattle.line.specs.Fault.{wordRefusal}
+use Rattle.line.specs.Fault.{wordRefusal, countsOf}
 use Rattle.reader.specs.Judge.{lineRefusal, reportOf, judgedOf}
 use Rattle.reader.proofs.Judged.{line-standing, line-words, judged-refused, judged-moved}
 use Rattle.reader.proofs.judge.Statement.{statement}
@@ -54,9 +55,10 @@ module _ (w : Walk) (words : List ℕ) (size : ℕ) (is-size : size ≡ lineWord
         refused-words : (f .number ≡ 0 → ⊥) → refusedAt w f ≡ judgedOf w words
         refused-words n = sym (judged-refused (length words) (lineWords w) w words f fault-due n)
 
-        accepted-words : (report : Report) → f .number ≡ 0 → report ≡ reportOf d words → movedAt w d report ≡ judgedOf w words
-        accepted-words report well is-report =
-            ap (movedAt w d) is-report ∙ ap (λ (x : Due). movedAt w x (reportOf x words)) is-due
+        accepted-words : (report : Report) (packets : PacketWords) → f .number ≡ 0 → report ≡ reportOf d words → packets ≡ countsOf d words
+            → movedAt w d report packets ≡ judgedOf w words
+        accepted-words report packets well is-report is-counted =
+            ap₂ (movedAt w d) is-report is-counted ∙ ap (λ (x : Due). movedAt w x (reportOf x words) (countsOf x words)) is-due
             ∙ sym (judged-moved (length words) (lineWords w) w words (same-number fault-due ∙ well))
 
 line-words-requires : tie.Need-line-words-requires
@@ -96,16 +98,16 @@ refused-requires-2 c κs = tt
 
 returns-2 : tie.Need-returns-2
 returns-2 c =
-    let looked = c .before .before .before in
+    let looked = c .before .before .before .before in
     let standing = looked .before .before .before .before .before in
     let a = standing .before .before .before .args in
     c .refused2 .ensures
     ∙ refused-words (a .walk) (now (a .words)) _ (standing .before .line-words .ensures) _ (standing .standing .ensures)
-    (looked .before .before .before .if1 .left) _ (looked .before .due .ensures) _ (looked .first-fault .ensures) (c .before .if2 .taken)
+    (looked .before .before .before .if1 .left) _ (looked .before .due .ensures) _ (looked .first-fault .ensures .0) (c .before .if2 .taken)
 
 report-requires : tie.Need-report-requires
 report-requires c κs =
-    let looked = c .before .before in
+    let looked = c .before .before .before .before in
     let standing = looked .before .before .before .before .before in
     let a = standing .before .before .before .args in
     of-system (a .walk) (now (a .words)) _ (standing .before .line-words .ensures) _ (standing .standing .ensures)
@@ -116,12 +118,14 @@ accepted-requires c κs = tt
 
 returns-3 : tie.Need-returns-3
 returns-3 c =
-    let looked = c .before .before .before .before in
+    let well = c .before .before .before in
+    let looked = well .before .before .before in
     let standing = looked .before .before .before .before .before in
     let a = standing .before .before .before .args in
     c .accepted .ensures
     ∙ accepted-words (a .walk) (now (a .words)) _ (standing .before .line-words .ensures) _ (standing .standing .ensures)
-    (looked .before .before .before .if1 .left) _ (looked .before .due .ensures) _ (looked .first-fault .ensures) _ (c .before .before .if2 .left) (c .before .report .ensures)
+    (looked .before .before .before .if1 .left) _ (looked .before .due .ensures) _ (looked .first-fault .ensures .0) _ _ (well .if2 .left) (c .before .report .ensures)
+    (looked .first-fault .ensures .1 (well .if2 .left))
 
 pub judge-spec : {M : Type 1} → statement M
 judge-spec =

@@ -9,7 +9,7 @@ use borrow.Author.Count.{below-more}
 use borrow.Author.Needs.{needs}
 use borrow.Author.Tests.{eqb-true, ltb-true, ltb-false}
 use Rattle.refusal.proofs.Cases.{by-test, and-true}
-use Rattle.line.specs.Fault.{leastSample, mostSample}
+use Rattle.words.specs.Words.{leastSample, mostSample}
 use Rattle.line.specs.Samples.{Samples, yLength, cLength}
 use Rattle.line.specs.Fit.{Inside}
 use Rattle.writer.proofs.Places.{each-place}

@@ -7,7 +7,7 @@ use lib.Dec.{ltb}
 use borrow.Author.Count.{below-more}
 use borrow.Author.Needs.{needs}
 use Rattle.refusal.proofs.Firsts.{first-none, first-at}
-use Rattle.line.specs.Fault.{leastSample, mostSample}
+use Rattle.words.specs.Words.{leastSample, mostSample}
 use Rattle.line.specs.Samples.{Samples, activeLength, sampleAt}
 use Rattle.writer.specs.Write.{outsideAt}
 use Rattle.writer.proofs.lowest_outside.Statement.{statement}

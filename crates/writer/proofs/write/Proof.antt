@@ -13,37 +13,42 @@ use Rattle.system.specs.declared.due.Due.{Due}
 use Rattle.system.specs.Figures.{systemOf}
 use Rattle.system.specs.Due.{dueOf}
 use Rattle.system.specs.Walk.{namedRefusal}
-use Rattle.line.specs.Samples.{Samples, lineOf}
+use Rattle.line.specs.Samples.{Content, lineOf}
 use Rattle.writer.specs.Write.{dueRefusal, writeRefusal, lineAfter}
 use Rattle.writer.proofs.write.Statement.{statement}
 use Rattle.writer.proofs.write.Tie as tie
 
-abbrev samples-of : tie.Start → Samples
-samples-of c = record { y = now (c .args .y); cb = now (c .args .cb); cr = now (c .args .cr) }
+abbrev content-of : tie.Start → Content
+content-of c =
+    record {
+      samples = record { y = now (c .args .y); cb = now (c .args .cb); cr = now (c .args .cr) };
+      packets = record { between = now (c .args .between); active = now (c .args .active) };
+    }
 
-module _ (system line : ℕ) (p : Samples) (words : List ℕ) (named : Refusal) (is-named : named ≡ namedRefusal system line) where
-  unnamed : (named .number ≡ 0 → ⊥) → (named ≡ writeRefusal system line p (length words)) × (words ≡ lineAfter system line p words)
+module _ (system line : ℕ) (c : Content) (words : List ℕ) (named : Refusal) (is-named : named ≡ namedRefusal system line) where
+  unnamed : (named .number ≡ 0 → ⊥) → (named ≡ writeRefusal system line c (length words)) × (words ≡ lineAfter system line c words)
   unfolding writeRefusal lineAfter
   unnamed n =
-      let refused = orElse-refused (namedRefusal system line) (dueRefusal (dueOf (systemOf system) line) p (length words)) (λ z. n (same-number is-named ∙ z)) in
+      let refused = orElse-refused (namedRefusal system line) (dueRefusal (dueOf (systemOf system) line) c (length words)) (λ z. n (same-number is-named ∙ z)) in
       (is-named ∙ sym refused, sym (written-refused _ _ words (λ z. n (same-number is-named ∙ sym (same-number refused) ∙ z))))
 
-  as-due : named .number ≡ 0 → (d : Due) → d ≡ dueOf (systemOf system) line → (r : Refusal) (after : List ℕ) → r ≡ dueRefusal d p (length words) → after ≡ writtenBy r (lineOf d p) words
-      → (r ≡ writeRefusal system line p (length words)) × (after ≡ lineAfter system line p words)
+  as-due : named .number ≡ 0 → (d : Due) → d ≡ dueOf (systemOf system) line → (r : Refusal) (after : List ℕ) → r ≡ dueRefusal d c (length words)
+      → after ≡ writtenBy r (lineOf d c) words
+      → (r ≡ writeRefusal system line c (length words)) × (after ≡ lineAfter system line c words)
   unfolding writeRefusal lineAfter
   as-due z d is-due r after answer left =
-      let same : r ≡ writeRefusal system line p (length words) =
-      answer ∙ ap (λ (x : Due). dueRefusal x p (length words)) is-due ∙ sym (orElse-accepted (namedRefusal system line) _ (sym (same-number is-named) ∙ z)) in
-      (same, left ∙ ap (λ (x : Due). writtenBy r (lineOf x p) words) is-due ∙ ap (λ (x : Refusal). writtenBy x (lineOf (dueOf (systemOf system) line) p) words) same)
+      let same : r ≡ writeRefusal system line c (length words) =
+      answer ∙ ap (λ (x : Due). dueRefusal x c (length words)) is-due ∙ sym (orElse-accepted (namedRefusal system line) _ (sym (same-number is-named) ∙ z)) in
+      (same, left ∙ ap (λ (x : Due). writtenBy r (lineOf x c) words) is-due ∙ ap (λ (x : Refusal). writtenBy x (lineOf (dueOf (systemOf system) line) c) words) same)
 
 named-refusal-requires : tie.Need-named-refusal-requires
 named-refusal-requires c κs = search needs
 
 returns : tie.Need-returns
 returns c =
-    let start = c .before .before .before .before .before .before .before in
+    let start = c .before .before .before .before .before .before .before .before .before in
     let named = c .before .before .named-refusal .ensures in
-    unnamed (start .args .system) (start .args .line) (samples-of start) (now (start .args .words)) _ named (c .if1 .taken)
+    unnamed (start .args .system) (start .args .line) (content-of start) (now (start .args .words)) _ named (c .if1 .taken)
 
 system-of-requires : tie.Need-system-of-requires
 system-of-requires c κs = search needs
@@ -59,10 +64,10 @@ same-length c = search needs
 
 returns-2 : tie.Need-returns-2
 returns-2 c =
-    let start = c .before .before .before .before .before .before .before .before .before .before .before .before .before in
+    let start = c .before .before .before .before .before .before .before .before .before .before .before .before .before .before .before in
     let wrote = c .before .before .write-line .ensures in
     let due = c .before .before .before .before .of .ensures ∙ ap (λ (s : System). dueOf s (start .args .line)) (c .before .before .before .before .before .system-of .ensures) in
-    as-due (start .args .system) (start .args .line) (samples-of start) (now (start .args .words)) _ (c .before .before .before .before .before .before .before .before .named-refusal .ensures)
+    as-due (start .args .system) (start .args .line) (content-of start) (now (start .args .words)) _ (c .before .before .before .before .before .before .before .before .named-refusal .ensures)
     (c .before .before .before .before .before .before .if1 .left) _ due _ _ (wrote .0) (wrote .1)
 
 pub write-spec : {M : Type 1} → statement M

@@ -8,8 +8,8 @@ use denote.Ref.{now}
 use native.Mathlib.Omega.{arith}
 use borrow.Author.Tests.{eqb-true}
 use Rattle.words.specs.Bytes.{wordOfBytes}
-use Rattle.line.specs.Parts.{Filled}
-use Rattle.line.proofs.Passes.{still-well, halves}
+use Rattle.words.specs.Passes.{Filled}
+use Rattle.words.proofs.Passes.{still-well, halves}
 use Rattle.bytewise.proofs.pass.all_fill.Statement.{statement}
 use Rattle.bytewise.proofs.pass.all_fill.Tie as tie
 

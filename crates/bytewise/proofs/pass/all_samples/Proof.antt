@@ -9,7 +9,7 @@ use mir.Syntax.{w16}
 use mir.Val.{toZ}
 use Rattle.line.specs.Samples.{activeLength}
 use Rattle.words.specs.Bytes.{wordOfBytes}
-use Rattle.line.specs.Parts.{Sampled}
+use Rattle.words.specs.Passes.{Sampled}
 use Rattle.bytewise.specs.Passes.{SampleKey}
 use Rattle.bytewise.proofs.pass.all_samples.Statement.{statement}
 use Rattle.bytewise.proofs.pass.all_samples.Tie as tie

@@ -1,4 +1,4 @@
--- `bytewise::pass::all_well` meets its contract, part by part. Assumes nothing.
+-- `bytewise::pass::all_well` meets its contract, part by part; the packets are those of the space between. Assumes nothing.
 use mathlib.Core.Path.{sym, ap, _∙_}
 use Prim.Native.Nat.{ℕ, _+_, _*_}
 use native.Mathlib.Omega.{arith}
@@ -28,8 +28,8 @@ code-well-requires c κs = (omega (arith, line-is-parts (c .before .before .befo
 returns : tie.Need-returns
 returns c = λ e. absurd (true≢false (sym e))
 
-space-well-requires : tie.Need-space-well-requires
-space-well-requires c κs = search needs
+between-space-requires : tie.Need-between-space-requires
+between-space-requires c κs = search needs
 
 returns-2 : tie.Need-returns-2
 returns-2 c = λ e. absurd (true≢false (sym e))
@@ -39,7 +39,7 @@ flags-requires-2 c κs = search needs
 
 code-well-requires-2 : tie.Need-code-well-requires-2
 code-well-requires-2 c κs =
-    let s = c .before .before .before .before .before .before in
+    let s = c .before .before .before .before .before .before .before in
     let start = s .before .before in (
       omega (arith, s .sav-offset .ensures, line-is-parts (start .args .due .system)),
       start .pre .1 .sav ∙ ap (λ (k : ℕ). correctionOf (wordOfBytes (now (start .args .bytes)) (2 * k + 6))) (sym (s .sav-offset .ensures)),
@@ -50,25 +50,26 @@ returns-3 c = λ e. absurd (true≢false (sym e))
 
 add-active-well : tie.Need-add-active-well
 add-active-well c =
-    let s = c .before .before .before .before .before .before .before .before in
+    let s = c .before .before .before .before .before .before .before .before .before in
     omega (arith, s .sav-offset .ensures, sav-high (s .before .before .args .due .system))
 
 active-well-requires : tie.Need-active-well-requires
 active-well-requires c κs =
-    let s = c .before .before .before .before .before .before .before .before in
-    omega (arith, s .sav-offset .ensures, s .before .before .pre .0 .size, line-is-parts (s .before .before .args .due .system))
+    let s = c .before .before .before .before .before .before .before .before .before in
+    (s .before .before .pre .0, omega (arith, s .sav-offset .ensures))
 
 returns-4 : tie.Need-returns-4
 returns-4 c = λ e.
     let second = c .before .before in
-    let space = second .before .before .before in
+    let past = second .before .before in
+    let space = past .before .before in
     let first = space .before .before in
     let s = first .before .before in
     let start = s .before .before in
-    line-well (start .args .due) (now (start .args .bytes)) (s .sav-offset .result) (first .before .flags .result) (second .before .flags2 .result)
-    (start .pre .0) (s .sav-offset .ensures) (first .before .flags .ensures) (second .before .flags2 .ensures)
+    line-well (now (start .args .bytes)) (start .args .due) (s .sav-offset .result) (first .before .flags .result) (second .before .flags2 .result)
+    (space .between-space .result) (s .sav-offset .ensures) (first .before .flags .ensures) (second .before .flags2 .ensures)
     (first .code-well .ensures (not-false _ (space .before .if1 .left)))
-    (space .space-well .ensures (not-false _ (second .before .before .if2 .left)))
+    (space .between-space .ensures) (past .if2 .left)
     (second .code-well2 .ensures (not-false _ (c .before .if3 .left)))
     (c .active-well .ensures e)
 
@@ -81,7 +82,7 @@ all-well-spec =
     flags-requires
     code-well-requires
     returns
-    space-well-requires
+    between-space-requires
     returns-2
     flags-requires-2
     code-well-requires-2

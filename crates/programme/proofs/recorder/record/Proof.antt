@@ -11,6 +11,7 @@ use Rattle.system.specs.declared.System.the-variants.{Lines625}
 use Rattle.system.specs.Figures.{lineLength, systemOf}
 use Rattle.system.specs.Walk.{lineBytes, standingRefusal}
 use Rattle.system.proofs.Laws.{accepted-stood, longest}
+use Rattle.line.specs.Samples.{Packets}
 use Rattle.programme.proofs.Records.{record-standing, recorded-as, bytes-refused-as}
 use Rattle.programme.proofs.recorder.record.Statement.{statement}
 use Rattle.programme.proofs.recorder.record.Tie as tie
@@ -26,12 +27,13 @@ refused-requires c κs = search needs
 
 returns : tie.Need-returns
 returns c =
-    let a = c .before .before .before .before .before .before .before .args in
+    let a = c .before .before .before .before .before .before .before .before .before .args in
+    let k : Packets = record { between = now (a .between); active = now (a .active) } in
     let s = c .before .before .before in
     let due = s .standing .ensures ∙ ap (standingRefusal (a .walk) (length (now (a .line)))) (s .before .line-bytes .ensures .0) in
-    let is = record-standing (a .walk) (now (a .row)) (length (now (a .line))) (λ z. c .before .if1 .taken (same-number due ∙ z)) ∙ sym due in (
-      c .refused .ensures ∙ sym (recorded-as (a .walk) (now (a .row)) _ _ is (c .before .if1 .taken)),
-      sym (bytes-refused-as (a .walk) (now (a .row)) (now (a .line)) _ is (c .before .if1 .taken)),
+    let is = record-standing (a .walk) (now (a .row)) k (length (now (a .line))) (λ z. c .before .if1 .taken (same-number due ∙ z)) ∙ sym due in (
+      c .refused .ensures ∙ sym (recorded-as (a .walk) (now (a .row)) k _ _ is (c .before .if1 .taken)),
+      sym (bytes-refused-as (a .walk) (now (a .row)) k (now (a .line)) _ is (c .before .if1 .taken)),
     )
 
 line-words-requires : tie.Need-line-words-requires
@@ -48,7 +50,7 @@ part-words-end c = search needs
 
 record-in-requires : tie.Need-record-in-requires
 record-in-requires c κs =
-    let a = c .before .before .before .before .before .before .before .before .before .args in
+    let a = c .before .before .before .before .before .before .before .before .before .before .before .args in
     let s = c .before .before .before .before .before in
     let due = s .standing .ensures ∙ ap (standingRefusal (a .walk) (length (now (a .line)))) (s .before .line-bytes .ensures .0) in
     let stood = accepted-stood (a .walk) (length (now (a .line))) (lineBytes (a .walk)) (sym (same-number due) ∙ c .before .before .before .if1 .left) in

@@ -5,7 +5,7 @@ use mathlib.Core.Path.{ap, _∙_}
 use mathlib.Core.Bool.{Bool, cond}
 use Rattle.timing.specs.Report.{numberWhere}
 use Rattle.line.specs.Fault.{faultWhere}
-use Rattle.reader.proofs.Tests.{cond-not}
+use Rattle.packets.proofs.Tests.{cond-not}
 use Rattle.reader.proofs.fault.fault.Statement.{statement}
 use Rattle.reader.proofs.fault.fault.Tie as tie
 

@@ -1,6 +1,6 @@
 -- `reader::fault::number_where` meets its contract, case by case. Assumes nothing.
 use borrow.Author.Needs.{needs}
-use Rattle.reader.proofs.Tests.{cond-not}
+use Rattle.packets.proofs.Tests.{cond-not}
 use Rattle.reader.proofs.fault.number_where.Statement.{statement}
 use Rattle.reader.proofs.fault.number_where.Tie as tie
 

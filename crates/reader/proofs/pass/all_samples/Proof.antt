@@ -7,9 +7,8 @@ use native.Mathlib.Omega.{arith}
 use lib.ListN.{getD}
 use Rattle.refusal.proofs.Cases.{not-true}
 use Rattle.line.specs.Samples.{activeLength}
-use Rattle.line.specs.Parts.{Sampled}
-use Rattle.line.proofs.Faults.{not-reserved}
-use Rattle.line.proofs.Passes.{still-well}
+use Rattle.words.specs.Passes.{Sampled}
+use Rattle.words.proofs.Passes.{not-reserved, still-well}
 use Rattle.reader.proofs.pass.all_samples.Statement.{statement}
 use Rattle.reader.proofs.pass.all_samples.Tie as tie
 

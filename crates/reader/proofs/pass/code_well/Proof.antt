@@ -1,6 +1,6 @@
 -- `reader::pass::code_well` meets its contract: four words, and no fault at any. Assumes nothing.
 use borrow.Author.Needs.{needs}
-use Prim.Native.Nat.{ℕ, zero, suc, _+_, _<_}
+use Prim.Native.Nat.{ℕ, _+_}
 use mathlib.Core.Path.{_≡_, sym, _∙_}
 use mathlib.Core.Bool.{true, _&&_}
 use native.Mathlib.Omega.{arith}
@@ -11,15 +11,9 @@ use borrow.Author.Tests.{eqb-true}
 use Rattle.line.specs.Offsets.{codeAt}
 use Rattle.line.specs.Fault.{faultWhere}
 use Rattle.refusal.proofs.Cases.{and-true}
+use Rattle.reader.proofs.Parts.{by-four}
 use Rattle.reader.proofs.pass.code_well.Statement.{statement}
 use Rattle.reader.proofs.pass.code_well.Tie as tie
-
-by-four : (P : ℕ → Type 0) → P 0 → P 1 → P 2 → P 3 → (k : ℕ) → k < 4 → P k
-by-four P p0 p1 p2 p3 zero l = p0
-by-four P p0 p1 p2 p3 (suc zero) l = p1
-by-four P p0 p1 p2 p3 (suc (suc zero)) l = p2
-by-four P p0 p1 p2 p3 (suc (suc (suc zero))) l = p3
-by-four P p0 p1 p2 p3 (suc (suc (suc (suc k)))) l = absurd (omega arith)
 
 all-zero : (a b c d : ℕ) → (((eqb a 0 && eqb b 0) && eqb c 0) && eqb d 0) ≡ true → (a ≡ 0) × (b ≡ 0) × (c ≡ 0) × (d ≡ 0)
 all-zero a b c d e =

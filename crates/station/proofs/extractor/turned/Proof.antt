@@ -9,34 +9,34 @@ use Rattle.station.proofs.extractor.turned.Statement.{statement}
 use Rattle.station.proofs.extractor.turned.Tie as tie
 
 ended-requires : tie.Need-ended-requires
-ended-requires c κs = tt
+ended-requires c κs = search needs
 
 returns : tie.Need-returns
 returns c =
     let a = c .before .before .before .before .args in
-    line-unread (a .run) (a .filled) (a .line .now) _ (c .ended .result) (c .before .if1 .taken) (c .ended .ensures)
+    line-unread (a .run) (a .sidecar) (a .filled) (a .line .now) _ (c .ended .result) (c .before .if1 .taken) (c .ended .ensures)
 
 ended-requires-2 : tie.Need-ended-requires-2
-ended-requires-2 c κs = tt
+ended-requires-2 c κs = search needs
 
 returns-2 : tie.Need-returns-2
 returns-2 c =
     let i = c .before in
     let f = i .before in
     let a = f .before .before .before .args in
-    input-ended (a .run) (a .filled) (a .line .now) _ (c .ended2 .result) (f .if1 .left) (i .if2 .taken) (c .ended2 .ensures)
+    input-ended (a .run) (a .sidecar) (a .filled) (a .line .now) _ (c .ended2 .result) (f .if1 .left) (i .if2 .taken) (c .ended2 .ensures)
 
-sub-put-row : tie.Need-sub-put-row
-sub-put-row c = search needs
+sub-put-line : tie.Need-sub-put-line
+sub-put-line c = search needs
 
-part-put-row-start : tie.Need-part-put-row-start
-part-put-row-start c = search needs
+part-put-line-start : tie.Need-part-put-line-start
+part-put-line-start c = search needs
 
-part-put-row-end : tie.Need-part-put-row-end
-part-put-row-end c = search needs
+part-put-line-end : tie.Need-part-put-line-end
+part-put-line-end c = search needs
 
-put-row-requires : tie.Need-put-row-requires
-put-row-requires c κs = tt
+put-line-requires : tie.Need-put-line-requires
+put-line-requires c κs = search needs
 
 same-length : tie.Need-same-length
 same-length c = search needs
@@ -48,7 +48,8 @@ returns-3 c =
     let f = i .before in
     let a = f .before .before .before .args in
     let whole : a .filled .have - 0 ≡ a .filled .have = omega arith in
-    line-filled (a .run) (a .filled) (a .line .now) _ (p .put-row .result) (f .if1 .left) (i .if2 .left) _ (ap (λ (n : ℕ). take n (a .line .now)) whole) (p .put-row .ensures .0) (p .put-row .ensures .1)
+    line-filled (a .run) (a .sidecar) (a .filled) (a .line .now) _ (p .put-line .result) (f .if1 .left) (i .if2 .left) _
+    (ap (λ (n : ℕ). take n (a .line .now)) whole) (p .put-line .ensures .0) (p .put-line .ensures .1) (p .put-line .ensures .2)
 
 pub turned-spec : {M : Type 1} → statement M
 turned-spec =
@@ -58,9 +59,9 @@ turned-spec =
     returns
     ended-requires-2
     returns-2
-    sub-put-row
-    part-put-row-start
-    part-put-row-end
-    put-row-requires
+    sub-put-line
+    part-put-line-start
+    part-put-line-end
+    put-line-requires
     same-length
     returns-3)

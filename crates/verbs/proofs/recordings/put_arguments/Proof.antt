@@ -5,10 +5,10 @@ use Rattle.verbs.proofs.recordings.put_arguments.Statement.{statement}
 use Rattle.verbs.proofs.recordings.put_arguments.Tie as tie
 
 abbrev Inv-loop : tie.InvT-loop
-Inv-loop task verb first tally₀ index₀ index-end tally index = Unit {0}
+Inv-loop task verb first packets tally₀ index₀ index-end tally index = Unit {0}
 
 abbrev μ-loop : tie.MeasureT-loop
-μ-loop task verb first tally₀ index₀ index-end tally index = index-end - index
+μ-loop task verb first packets tally₀ index₀ index-end tally index = index-end - index
 
 none-requires : tie.Need-none-requires Inv-loop μ-loop
 none-requires c κs = search needs
@@ -34,6 +34,9 @@ loop-again c = search needs
 ended-requires : tie.Need-ended-requires Inv-loop μ-loop
 ended-requires c κs = search needs
 
+say-left-requires : tie.Need-say-left-requires Inv-loop μ-loop
+say-left-requires c κs = search needs
+
 returns : tie.Need-returns Inv-loop μ-loop
 returns c = search needs
 
@@ -51,4 +54,5 @@ put-arguments-spec =
     loop-less
     loop-again
     ended-requires
+    say-left-requires
     returns)

@@ -5,10 +5,10 @@ use Rattle.verbs.proofs.recordings.put_pieces.Statement.{statement}
 use Rattle.verbs.proofs.recordings.put_pieces.Tie as tie
 
 abbrev Inv-loop : tie.InvT-loop
-Inv-loop task verb folder last next₀ number₀ next number = number ≤ last
+Inv-loop task verb folder last packets next₀ number₀ next number = number ≤ last
 
 abbrev μ-loop : tie.MeasureT-loop
-μ-loop task verb folder last next₀ number₀ next number = last - number
+μ-loop task verb folder last packets next₀ number₀ next number = last - number
 
 loop-holds : tie.Need-loop-holds Inv-loop μ-loop
 loop-holds c = search needs

@@ -6,10 +6,9 @@ use mathlib.Core.Bool.{true}
 use native.Mathlib.Omega.{arith}
 use lib.ListN.{getD}
 use Rattle.refusal.proofs.Cases.{not-true}
-use Rattle.line.specs.Parts.{Sampled}
+use Rattle.words.specs.Passes.{Sampled}
 use Rattle.line.specs.Samples.{activeLength}
-use Rattle.line.proofs.Faults.{not-reserved}
-use Rattle.line.proofs.Passes.{still-well}
+use Rattle.words.proofs.Passes.{not-reserved, still-well}
 use Rattle.writer.proofs.part.all_inside.Statement.{statement}
 use Rattle.writer.proofs.part.all_inside.Tie as tie
 

@@ -11,7 +11,7 @@ use lib.ListN.{getD}
 use borrow.Author.Count.{below-more}
 use Rattle.refusal.specs.Numbers.{outside}
 use Rattle.refusal.proofs.Firsts.{first-none, first-at}
-use Rattle.line.specs.Fault.{leastSample, mostSample}
+use Rattle.words.specs.Words.{leastSample, mostSample}
 use Rattle.line.specs.Samples.{activeLength, partSamples}
 use Rattle.line.proofs.Places.{part-in-place}
 use Rattle.writer.specs.Write.{outsideAt}

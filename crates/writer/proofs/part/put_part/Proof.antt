@@ -32,23 +32,23 @@ returns c =
     blank-whole (start .args .due) p _ _ (c .before .before .before .before .before .before .before .before .put-blanking .ensures p) _ _ (c .before .before .before .before .before .active-offset .ensures) (c .before .before .before .before .before .before .before .before .put-blanking .ensures p .size)
     (c .before .before .before .before .if1 .taken) (c .before .before .put-fill .ensures)
 
-copy-part-requires : tie.Need-copy-part-requires
-copy-part-requires c κs =
+lay-requires : tie.Need-lay-requires
+lay-requires c κs =
     let start = c .before .before .before .before .before .before .before .before .before in
     let s = start .args .due .system in
     let p = partSamples (now (start .args .part)) in
-    (start .pre .0, omega (arith, line-is-parts s, c .before .before .active-offset .ensures, c .before .before .before .before .before .put-blanking .ensures p .size))
+    omega (arith, line-is-parts s, start .pre .0, c .before .before .active-offset .ensures, c .before .before .before .before .before .put-blanking .ensures p .size)
 
 same-length-2 : tie.Need-same-length-2
 same-length-2 c = search needs
 
 returns-2 : tie.Need-returns-2
 returns-2 c =
-    let start = c .before .before .before .before .before .before .before .before .before .before .before .before in
-    let s = start .args .due .system in
-    let p = partSamples (now (start .args .part)) in
-    part-whole (start .args .due) (now (start .args .part)) _ _ (c .before .before .before .before .before .before .before .before .put-blanking .ensures p) _ _ (c .before .before .before .before .before .active-offset .ensures)
-    (omega (arith, line-is-parts s, c .before .before .before .before .before .active-offset .ensures)) (c .before .before .before .before .if1 .left) (c .before .before .copy-part .ensures)
+    let blank = c .before .before .before .before .before .before .before .before in
+    let start = blank .before .before .before .before in
+    let part = now (start .args .part) in
+    part-whole (start .args .due) part _ _ (start .pre .0) (blank .put-blanking .ensures (partSamples part)) _ (c .before .before .before .before .before .active-offset .ensures)
+    (c .before .before .before .before .if1 .left) (c .before .before .lay .ensures)
 
 pub put-part-spec : {M : Type 1} → statement M
 put-part-spec =
@@ -59,6 +59,6 @@ put-part-spec =
     put-fill-requires
     same-length
     returns
-    copy-part-requires
+    lay-requires
     same-length-2
     returns-2)

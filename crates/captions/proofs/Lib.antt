@@ -1,0 +1,4 @@
+pub mod Entries
+pub mod Heads
+pub mod Judged
+pub mod Theorems

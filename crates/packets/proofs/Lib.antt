@@ -1,0 +1,15 @@
+pub mod Openings
+pub mod Froms
+pub mod Walks
+pub mod Tests
+pub mod Shifts
+pub mod Numbers
+pub mod Layouts
+pub mod Written
+pub mod Theorems
+pub mod Passes
+pub mod Local
+pub mod Ready
+pub mod ReadyPackets
+pub mod Bounds
+pub mod Exact

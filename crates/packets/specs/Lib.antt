@@ -1,0 +1,5 @@
+pub mod Packet
+pub mod Due
+pub mod Fault
+pub mod Refusals
+pub mod Passes
