@@ -20,7 +20,7 @@ use Rattle.recording.specs.Recording.{Recording}
 use Rattle.recording.specs.Confirmed.{Holds}
 use Rattle.recording.specs.Programme.{Recorded}
 
--- Recordings one behind the other, each its start line and its lines, and the rows that they took in turn; of packets none.
+-- Recordings one behind the other, each its start line and its lines, and the rows that they took in turn, with whatever packets.
 pub data Recordings (system : ℕ) : List (ℕ × List (List ℕ)) → List (List ℕ) → Type 0 where
   none : Recordings system [] []
   one : {more : List (ℕ × List (List ℕ))} {rest : List (List ℕ)} (start : ℕ) (rows lines : List (List ℕ)) (ks : List Packets)
