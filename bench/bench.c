@@ -20,6 +20,8 @@ uint32_t speed_write(uint32_t system, uint32_t line, const uint16_t *y, size_t y
                      uint16_t *words, size_t count);
 uint32_t speed_code(const uint16_t *words, size_t count, uint16_t *out, size_t room);
 uint32_t speed_decode(const uint16_t *words, size_t count, uint16_t *out, size_t room);
+uint32_t speed_ask(uint32_t system, uint32_t start, const uint8_t *trailer, size_t trailer_size, const uint8_t *index, size_t index_size,
+                   uint64_t length, uint32_t a, uint32_t b);
 
 enum { RUN = 65536, ROUNDS = 7 };
 enum { CODE = 4, Y_SAMPLES = 720, C_SAMPLES = 360, LAST_WORD = 1023, FIRST_SAMPLE = 4, LAST_SAMPLE = 1019, EVEN_FILL = 512, ODD_FILL = 64 };
@@ -365,6 +367,39 @@ static void serial_table(void) {
     }
 }
 
+/* ---- asking over an index of a million entries, beside a copy of its bytes */
+enum { ENTRIES = 1000000, ENTRY = 6, TRAILER = 16, LINES_A_UNIT = 10 };
+static uint8_t asked_index[ENTRIES * ENTRY], copied_index[ENTRIES * ENTRY], asked_trailer[TRAILER];
+static const uint64_t asked_lines = (uint64_t)ENTRIES * LINES_A_UNIT, asked_offset = (uint64_t)ENTRIES * LINES_A_UNIT * 2 * WORDS_625;
+
+static void put_number(uint8_t *at, uint64_t number, int bytes) {
+    for (int i = 0; i < bytes; i++) at[i] = (uint8_t)(number >> 8 * i);
+}
+
+static uint32_t ask_of(uint32_t a, uint32_t b) {
+    return speed_ask(625, 1, asked_trailer, TRAILER, asked_index, sizeof asked_index, asked_offset + sizeof asked_index + TRAILER, a, b);
+}
+
+static void ask(void) { check(ask_of(0, (uint32_t)asked_lines - 1) == 0, "asking"); }
+static void copy_index(void) { memcpy(copied_index, asked_index, sizeof asked_index); }
+
+static void index_table(void) {
+    for (uint32_t i = 0; i < ENTRIES; i++) {
+        put_number(asked_index + i * ENTRY, i * LINES_A_UNIT, 4);
+        put_number(asked_index + i * ENTRY + 4, 1 + i % 2, 2);
+    }
+    put_number(asked_trailer, asked_offset, 8);
+    put_number(asked_trailer + 8, ENTRIES, 4);
+    put_number(asked_trailer + 12, asked_lines, 4);
+    check(ask_of(0, (uint32_t)asked_lines) == 20 && ask_of(1, 0) == 20, "a range that leaves the file is told");
+    asked_index[sizeof asked_index - 2] = 3;
+    check(ask_of(0, 0) == 19, "the last entry is looked at");
+    asked_index[sizeof asked_index - 2] = 1;
+    Row rows[] = {{"memcpy", copy_index, 0}, {"ask", ask, 0}};
+    measure(rows, 2, 5);
+    printf("a million entries      of memcpy\n%-22s %8.2f\n", "ask", rows[0].best / rows[1].best);
+}
+
 /* ---- a recording for the confirming program */
 static int write_recording(uint32_t system, uint32_t start, size_t lines, const char *kind) {
     static uint16_t line[WORDS_625];
@@ -394,5 +429,6 @@ int main(int argc, char **argv) {
         packets_table(&systems[i]);
     }
     serial_table();
+    index_table();
     return 0;
 }

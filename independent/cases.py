@@ -2,8 +2,8 @@
 
 from itertools import product
 
-from independent import call_cases, due_cases, head_cases, judge, packet_cases, ready_cases
-from independent import step_cases
+from independent import call_cases, due_cases, finishing_cases, head_cases, index_cases, judge
+from independent import packet_cases, ready_cases, step_cases
 from independent.call_cases import readings
 from independent.edges import ALL_PLACES, ANY_SYSTEMS, EDGE_COUNTS, EDGE_LINES, EDGE_PLACES
 from independent.edges import EDGE_SAMPLES, EDGE_WORDS, HIGHEST, LISTED_COUNTS, LISTED_LENGTHS
@@ -453,6 +453,8 @@ FAMILIES = (
     *packet_cases.FAMILIES,
     *ready_cases.FAMILIES,
     *head_cases.FAMILIES,
+    *index_cases.FAMILIES,
+    *finishing_cases.FAMILIES,
 )
 
 

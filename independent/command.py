@@ -1,17 +1,34 @@
 """The command: what it writes, says and leaves behind, for any arguments, input and files.
 
-Arguments and names are text whose bytes that are no UTF-8 are kept as Python
-keeps them. Files are a dictionary: a path has a file's bytes, or FOLDER. Where
-the system's text of an error is due, the word REASON stands.
+What arguments, names and files are here is told in answers.py.
 """
 
 import os
-import re
 from functools import lru_cache
 from itertools import chain
 from typing import NamedTuple, Optional
 
 from independent import judge, programme
+from independent.answers import (
+    ANY_TEXT,
+    FAILED,
+    FOLDER,
+    HEADER_TEXTS,
+    NOT_MADE,
+    NOT_READ,
+    READ_TEXTS,
+    STOPPED,
+    TAKEN,
+    Answer,
+    Report,
+    WrongUse,
+    can_be_made,
+    found,
+    number_of,
+    refused,
+    shown,
+    why_not_beside,
+)
 from independent.entries import FIRST_ORDINAL, NotTaken, line_entries
 from independent.packets import each_packet, header_values
 from independent.programme import LAST_NUMBER, Refused
@@ -26,6 +43,7 @@ from independent.recordings import (
     run_over,
     told,
 )
+from independent.retention import RETAINERS, retention_answer
 from independent.tapes import frame_rows, piece_lines
 from independent.totals import HOUR_PARTS, hours, no_totals, total_lines, with_read, with_unread
 from independent.words import (
@@ -35,14 +53,8 @@ from independent.words import (
     LAST_SAMPLE,
     LAST_WORD,
     NOT_A_SAMPLE,
-    NOT_DUE,
-    NO_BIT_9,
     NO_ENTRY,
     NO_FILL,
-    NO_LINE,
-    NO_PATTERN,
-    NO_PREAMBLE,
-    NO_SYSTEM,
     OVER_A_WORD,
     PAST_THE_SPACE,
     RESERVED,
@@ -50,19 +62,19 @@ from independent.words import (
     WRONG_LENGTH,
 )
 
-FOLDER = "folder"
-
-# The text of a help is the command's own; it is only known that there is one.
-ANY_TEXT = None
-
-TAKEN, STOPPED, FAILED = range(3)
-
 USES = {
-    "fiskrogn": "confirm | record | extract | packets | scramble | descramble | help ..",
+    "fiskrogn": (
+        "confirm | record | extract | packets | finish | ask | check | unfinish |\n"
+        "                scramble | descramble | help .."
+    ),
     "confirm": "confirm [FILE | FOLDER]..",
     "record": "record [--into FOLDER [--frames N]] [--packets FILE] SYSTEM START",
     "extract": "extract [--packets FILE] [FILE | FOLDER]",
     "packets": "packets [FILE | FOLDER]",
+    "finish": "finish [RECORDING] FINISHED",
+    "ask": "ask FINISHED SYSTEM START A B",
+    "check": "check FINISHED SYSTEM START",
+    "unfinish": "unfinish FINISHED SYSTEM START",
     "scramble": "scramble",
     "descramble": "descramble",
     "help": "help [VERB]",
@@ -75,29 +87,11 @@ AWAITED = {
     "record": "v210 rows",
     "extract": "a recording",
     "packets": "a recording",
+    "finish": "a recording",
     "scramble": "words",
     "descramble": "channel words",
 }
 
-HEADER_TEXTS = {
-    NO_SYSTEM: f"the system is neither {' nor '.join(map(str, judge.SYSTEMS))}",
-    NO_LINE: "the start line is not one of the system",
-}
-READ_TEXTS = {
-    **HEADER_TEXTS,
-    WRONG_LENGTH: "the recording ends inside a line",
-    WRONG_COUNTS: f"it goes on after {judge.LINES_LIMIT} lines",
-    OVER_A_WORD: f"a word is over {LAST_WORD}",
-    NO_PREAMBLE: "one of the first three words of a timing code is wrong",
-    NO_BIT_9: "bit 9 of a fourth word is 0",
-    NO_PATTERN: "a timing code has no legal code within one inverted bit",
-    NOT_DUE: "a timing code is not the one due here",
-    NO_FILL: "fill is due and is not there",
-    RESERVED: "a reserved word stands where a sample or a user word is due",
-    BAD_PARITY: "a header word of a packet has bad parity",
-    BAD_CHECKSUM: "a packet's checksum is wrong",
-    PAST_THE_SPACE: "a packet runs past its space",
-}
 RECORD_TEXTS = {
     **HEADER_TEXTS,
     WRONG_LENGTH: "the last row is short",
@@ -125,46 +119,18 @@ FRAME_ROWS_TEXT = f"a frame of 525 has {frame_rows(525)} rows, one of 625 has {f
 
 RECORDINGS = {f"{number:04}.rec": number for number in range(1, LAST_NUMBER + 1)}
 
-NOT_READ = "could not be read: REASON"
-NOT_MADE = "could not be made: REASON"
-NOT_WRITTEN = "could not be written: REASON"
 MISSING = "is missing"
 NO_NUMBERS = "holds no numbered recordings (0001.rec and so on)"
 HELD = "holds recordings already: name another folder"
 NO_MORE_NUMBERS = f"holds {LAST_NUMBER} recordings, and no more can be numbered"
-NOT_EMPTY = "holds something already: name another file"
 A_PACKETS_FILE = "--packets takes a packets file, as extract --packets writes one"
 NO_ENTRY_TEXT = "is cut, has a line, a space or words that cannot be, or does not rise"
 
 SPACE_NAMES = "between", "active"
 
 
-class Answer(NamedTuple):
-    """What is written on standard output and standard error, the status, the files left."""
-
-    output: Optional[bytes]
-    errors: bytes
-    status: int
-    files: dict = {}
-
-
-class WrongUse(Exception):
-    """Arguments that a verb does not take, and what is wrong with them."""
-
-
 class HelpAsked(Exception):
     """An option that asks for help in place of all else."""
-
-
-def shown(name):
-    """A name on one line: odd bytes are written as numbers."""
-    return re.sub(r"[\x00-\x1f\x7f\\]", lambda odd: f"\\x{ord(odd[0]):02x}", name)
-
-
-def number_of(text):
-    if not re.fullmatch("[0-9]{1,9}", text):
-        raise WrongUse(f"{shown(text)} is no number of one to nine digits")
-    return int(text)
 
 
 # The options that take a value, and how many other arguments a verb takes at least and at most.
@@ -177,6 +143,10 @@ PLACES = {
     "record": (2, 2),
     "extract": (0, 1),
     "packets": (0, 1),
+    "finish": (1, 2),
+    "ask": (5, 5),
+    "check": (3, 3),
+    "unfinish": (3, 3),
     "scramble": (0, 0),
     "descramble": (0, 0),
     "help": (0, 1),
@@ -230,12 +200,6 @@ def wrong_use(verb, what, files):
     return Answer(b"", os.fsencode(said), FAILED, files)
 
 
-def refused(refusal, texts):
-    number, line, place = refusal
-    text = texts[(number, place) if (number, place) in texts else number]
-    return f"refused {number}, line {line}, place {place}: {text}"
-
-
 def not_taken(at, entry):
     """What is said of what stands at a byte of a packets file and is refused."""
     unwritten = entry and f"is for the line of ordinal {entry.ordinal}, which is not written"
@@ -271,13 +235,6 @@ def run_in(data):
 
 
 NOTHING = unread("", None)
-
-
-def found(files, name):
-    """A file's bytes, FOLDER, or None where the name stands for nothing."""
-    path = os.path.normpath(name) if name else name
-    thing = FOLDER if path == os.curdir else files.get(path)
-    return None if name.endswith("/") and thing != FOLDER else thing
 
 
 def piece_name(folder, number):
@@ -355,21 +312,6 @@ def shown_totals(totals):
         f"FILES {totals.files} LINES {total_lines(totals)} HOURS {shown_hours(totals)} "
         f"REPAIRS {totals.repairs} REFUSED {totals.refused} UNREAD {totals.unread}\n"
     )
-
-
-class Report:
-    """What a verb writes and says, and how it ends, while it works."""
-
-    def __init__(self, verb, files):
-        self.verb, self.files = verb, files
-        self.output, self.errors, self.status = b"", b"", TAKEN
-
-    def say(self, status, text):
-        self.errors += os.fsencode(f"{self.verb}: {text}\n")
-        self.status = max(self.status, status)
-
-    def answer(self):
-        return Answer(self.output, self.errors, self.status, self.files)
 
 
 class Confirming(Report):
@@ -541,24 +483,6 @@ def say_how_it_ends(report, pieces, stopped, values):
         report.say(TAKEN, f"the last frame is not whole: {awaited}")
 
 
-def can_be_made(files, name):
-    """Whether nothing has a name and its parent is there."""
-    path = os.path.normpath(name)
-    parent = os.path.dirname(path) or os.curdir
-    return path not in files and found(files, parent) == FOLDER
-
-
-def why_not_beside(files, name):
-    """Why packets are not written into a file of this name, or None."""
-    thing = found(files, name)
-    if thing is None:
-        is_made = can_be_made(files, name) and not name.endswith("/")
-        return None if is_made else NOT_WRITTEN
-    if thing == FOLDER:
-        return NOT_WRITTEN
-    return NOT_EMPTY if thing else None
-
-
 def why_not_into(files, folder):
     """What takes no recordings, the folder or its first file, and why; or None."""
     if found(files, folder) == FOLDER:
@@ -649,6 +573,8 @@ def taken_answer(verb, values, words, data, files):
         return serial_answer(verb, data, files)
     if verb in READERS:
         return read_answer(verb, values, words, data, files)
+    if verb in RETAINERS:
+        return retention_answer(verb, words, data, files)
     return help_answer(files)
 
 

@@ -19,7 +19,8 @@ from independent.runs import STARTS, clean_lines, damaged, faults_in_packets, re
 from independent.tapes import NEVER_FULL, begin_tape, frame_rows
 
 SERIAL_PROGRAMS = ("scramble", "descramble")
-VERBS = ("confirm", "record", "extract", "packets", *SERIAL_PROGRAMS, "help")
+FINISHED_VERBS = ("finish", "ask", "check", "unfinish")
+VERBS = ("confirm", "record", "extract", "packets", *FINISHED_VERBS, *SERIAL_PROGRAMS, "help")
 
 # From these lines on two have V = 1, and those behind them V = 0.
 BEFORE_ROWS = {525: 18, 625: 21}

@@ -23,7 +23,8 @@ from pathlib import Path
 from random import Random
 from threading import Thread, Timer
 
-from independent import caption_cases, command_cases, folder_cases, judge, programme, stream
+from independent import caption_cases, command_cases, finished_cases, folder_cases, judge
+from independent import programme, stream
 from independent.command import (
     ANY_TEXT,
     FOLDER,
@@ -50,7 +51,12 @@ from independent.stream import LongRun, write_all
 
 REPOSITORY = Path(__file__).resolve().parent.parent
 TIMEOUT_SECONDS = 120
-FAMILIES = (*command_cases.FAMILIES, *folder_cases.FAMILIES, *caption_cases.FAMILIES)
+FAMILIES = (
+    *command_cases.FAMILIES,
+    *folder_cases.FAMILIES,
+    *caption_cases.FAMILIES,
+    *finished_cases.FAMILIES,
+)
 
 # The texts that the system has for errors.
 REASONS = "|".join(re.escape(os.strerror(number)) for number in errno.errorcode)

@@ -3,8 +3,8 @@
 import struct
 from typing import Callable, NamedTuple
 
-from independent import calls, captions, judge, packets, protocol, recordings, rows, tapes
-from independent import totals
+from independent import calls, captions, finished, index, judge, packets, protocol, recordings
+from independent import rows, tapes, totals
 
 
 class Kind(NamedTuple):
@@ -151,7 +151,43 @@ HEADS = {
     protocol.PUT_HEAD: Kind(captions.put_head, ("entry", "head"), ANSWER),
 }
 
-KINDS = {**LINES, **SHARED, **PROGRAMMES, **ARRIVALS, **HEADS}
+INDEX_ENTRY = index.Entry._fields
+TRAILER = (*wide("offset"), "entries", "lines")
+QUESTION = (
+    "system", "start", "lines", "a", "b", *wide("left"), "place", "c0", "c1", "c2", "c3", "c4",
+    *wide("least"), "unclean", "wrong",
+)  # fmt: skip
+ASKED_FOR = ("system", "start", "trailer", "length", "a", "b")
+FINISHING = (*RUN, "entries")
+MEETING = finished.Meeting._fields
+FINISHES = {
+    protocol.ENTRY_OF: Kind(index.entry_of, ("data",), INDEX_ENTRY),
+    protocol.PUT_ENTRY: Kind(index.put_entry, ("entry", "room"), ANSWER),
+    protocol.TRAILER_OF: Kind(index.trailer_of, ("data",), TRAILER),
+    protocol.PUT_TRAILER: Kind(index.put_trailer, ("trailer", "room"), ANSWER),
+    protocol.ASK: Kind(
+        index.ask, ("system", "start", "trailer", "index", "length", "a", "b"), (*ANSWER, "clean")
+    ),
+    protocol.QUESTION_BEGIN: Kind(index.begin_question, ASKED_FOR, QUESTION),
+    protocol.QUESTION_FEED: Kind(index.feed, ("question", "piece"), QUESTION),
+    protocol.QUESTION_REFUSAL: Kind(index.question_refusal, ("question",), ANSWER),
+    protocol.QUESTION_CLOSE: Kind(index.close_question, ("question",), (*ANSWER, "clean")),
+    protocol.FINISHING_OF: Kind(finished.finishing_of, ("run",), FINISHING),
+    protocol.FINISHING_FOLLOW: Kind(
+        finished.follow, ("finishing", "data", "room"), (*FINISHING, "taken", "put")
+    ),
+    protocol.FINISHING_CLOSE: Kind(finished.close, ("finishing", "data"), FINISHING),
+    protocol.FINISHING_TRAILER: Kind(finished.trailer_behind, ("finishing",), TRAILER),
+    protocol.MEET: Kind(finished.meet, ("meeting", "ours", "theirs"), MEETING),
+    protocol.IS_THEIRS: Kind(finished.is_theirs, ("run", "meeting"), ("is theirs",)),
+    protocol.DIFFERS_BEFORE: Kind(
+        finished.differs_before, ("run", "meeting"), ("differs before",)
+    ),
+    protocol.RUN_FRESH: Kind(recordings.fresh_run, ("system", "start"), RUN),
+    protocol.RUN_JUDGED: Kind(recordings.judged_on, ("run", "judgement"), RUN),
+}
+
+KINDS = {**LINES, **SHARED, **PROGRAMMES, **ARRIVALS, **HEADS, **FINISHES}
 
 # The library's calls that each kind asks, by crate and name.
 ASKED = {
@@ -242,13 +278,31 @@ ASKED = {
     protocol.FILLED_AFTER: ("intake::Filled::after",),
     protocol.JUDGE_HEAD: ("captions::judge_head",),
     protocol.PUT_HEAD: ("captions::put_head",),
+    protocol.ENTRY_OF: ("index::Entry::of",),
+    protocol.PUT_ENTRY: ("index::Entry::put",),
+    protocol.TRAILER_OF: ("index::Trailer::of",),
+    protocol.PUT_TRAILER: ("index::Trailer::put",),
+    protocol.ASK: ("index::ask",),
+    protocol.QUESTION_BEGIN: ("index::Question::begin",),
+    protocol.QUESTION_FEED: ("index::Question::feed",),
+    protocol.QUESTION_REFUSAL: ("index::Question::refusal",),
+    protocol.QUESTION_CLOSE: ("index::Question::close",),
+    protocol.FINISHING_OF: ("finished::Finishing::of",),
+    protocol.FINISHING_FOLLOW: ("finished::Finishing::follow",),
+    protocol.FINISHING_CLOSE: ("finished::Finishing::close",),
+    protocol.FINISHING_TRAILER: ("finished::Finishing::trailer",),
+    protocol.MEET: ("finished::Meeting::meet",),
+    protocol.IS_THEIRS: ("finished::is_theirs",),
+    protocol.DIFFERS_BEFORE: ("finished::differs_before",),
+    protocol.RUN_FRESH: ("confirmation::Run::fresh",),
+    protocol.RUN_JUDGED: ("confirmation::Run::judged",),
 }
 
 # Crates and calls that no kind asks, and why.
 NOT_ASKED = {
     **dict.fromkeys(("cases", "line_cases", "recording_cases", "probe"), "the probe itself"),
     **dict.fromkeys(
-        ("console", "folder", "confirm", "station", "verbs", "command"),
+        ("console", "folder", "confirm", "station", "retention", "verbs", "command"),
         "what the system has: compared as the command",
     ),
     "speed": "reader, writer and serial once more, for the benchmark only",

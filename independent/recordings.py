@@ -64,11 +64,14 @@ class Run(NamedTuple):
     place: int
 
 
-def begin(data):
-    # "a fresh walk, or its refusal"
-    system, start = header_of(data)
+def fresh_run(system, start):
+    # "A run of this system from this line on, before its lines: a fresh walk, or its refusal."
     number, place, walk = judge.fresh(system, start)
     return Run(system, start, walk, number, place)
+
+
+def begin(data):
+    return fresh_run(*header_of(data))
 
 
 def judged_on(run, judgement):

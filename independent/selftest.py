@@ -5,8 +5,8 @@ Run: python3 -m independent.selftest
 
 import sys
 
-from independent import calls_selftest, captions_selftest, command_selftest, judge
-from independent import packets_selftest, programme_selftest, wrong_models
+from independent import calls_selftest, captions_selftest, command_selftest, finished_selftest
+from independent import judge, packets_selftest, programme_selftest, wrong_models
 from independent.edges import LISTED_LENGTHS, LISTED_LINES, LISTED_SAMPLES, LISTED_SERIAL
 from independent.judge import CLEAN_REPORT, FRESH_STATE, NO_READY, Report, Walk, fourth_offsets
 from independent.material import changed
@@ -278,6 +278,7 @@ GROUPS = (
     *packets_selftest.GROUPS,
     *captions_selftest.GROUPS,
     *wrong_models.GROUPS,
+    *finished_selftest.GROUPS,
 )
 
 

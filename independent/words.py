@@ -1,7 +1,7 @@
 """Words and samples, and the numbers of refusals.
 
 Sentences between quotation marks are of document 01, those on packets of
-request L6 of document 02.
+request L6 of document 02 and those on finished files of request L10.
 """
 
 from operator import itemgetter
@@ -23,6 +23,8 @@ WRONG_STATE = 13  # "serial state: scrambled bits over 511 or last bit over 1"
 BAD_PARITY = 15  # "bad header parity"
 BAD_CHECKSUM = 16  # "bad checksum (at the checksum)"
 PAST_THE_SPACE = 17  # "the user words and checksum run past the space (at the count word)"
+BAD_PARTS = 19  # "parts that don't fit", "ordinals that do not rise" and more
+BAD_RANGE = 20  # "a range that leaves the file or has a after b"
 NO_ENTRY = 22  # of crates/captions: an entry of a packets file that is none
 LAST_REFUSAL = NO_ENTRY
 

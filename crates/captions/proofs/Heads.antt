@@ -6,10 +6,10 @@ use native.Mathlib.Omega.{arith}
 use native.Mathlib.Numerals.{add-one}
 use lib.ListN.{length, getD}
 use Rattle.words.specs.Words.{tabFrom}
-use Rattle.words.specs.Bytes.{wordOfBytes, bytesOf}
+use Rattle.words.specs.Bytes.{wordOfBytes, bytesOf, numberFrom}
 use Rattle.words.proofs.Tabs.{length-tab}
 use Rattle.captions.specs.declared.Entry.{Entry}
-use Rattle.captions.specs.Entry.{headLength, headOf, numberFrom, entryOf, Within}
+use Rattle.captions.specs.Entry.{headLength, headOf, entryOf, Within}
 
 -- ---- the words of a head
 module _ (head : List ℕ) where

@@ -1,14 +1,15 @@
 -- The packets file beside a programme: entries one after another, each a line's ordinal from 0, a space, and the packet words of that space, low
 -- byte first. An entry is a head of twelve bytes, ordinal (8), space (2), words (2), and behind it two bytes for each word.
-use Prim.Native.Nat.{ℕ, zero, suc, _+_, _*_, _/_, _%_, _^_, _<_, _≤_}
+use Prim.Native.Nat.{ℕ, _+_, _*_, _/_, _%_, _^_, _<_, _≤_}
 use mathlib.Core.List.{List}
 use mathlib.Core.Bool.{Bool, cond, not, _||_}
 use lib.Dec.{ltb, leb, eqb}
-use lib.ListN.{length, getD}
+use lib.ListN.{length}
 use Rattle.refusal.specs.declared.Refusal.{Refusal}
 use Rattle.refusal.specs.Numbers.{wrongLength, badEntry}
 use Rattle.refusal.specs.Answer.{refuse, writtenBy}
 use Rattle.words.specs.Words.{tab}
+use Rattle.words.specs.Bytes.{numberFrom}
 use Rattle.captions.specs.declared.Entry.{Entry}
 use Rattle.captions.specs.declared.Head.{Head}
 
@@ -38,11 +39,6 @@ headByte e i =
 -- the head of an entry
 unfoldable pub headOf : Entry → List ℕ
 headOf e = tab headLength (headByte e)
-
--- the number of n bytes from an offset
-unfoldable pub numberFrom : List ℕ → ℕ → ℕ → ℕ
-numberFrom bytes i zero = 0
-numberFrom bytes i (suc n) = getD bytes i 0 + 256 * numberFrom bytes (suc i) n
 
 -- the entry that a head tells
 unfoldable pub entryOf : List ℕ → Entry

@@ -2,8 +2,8 @@
 ghost use mathlib.Core.Path.{_≡_};
 ghost use Prim.Native.Nat.{_+_, _%_, _<_, _≤_};
 ghost use lib.ListN.{length};
-ghost use Rattle.words.specs.Bytes.{wordOfBytes};
-ghost use Rattle.captions.specs.Entry.{headLength, mostSpace, ordinalBound, numberFrom, entryOf, keyOf, headOf, isBad, headJudged, putRefusal, headAfter};
+ghost use Rattle.words.specs.Bytes.{wordOfBytes, numberFrom};
+ghost use Rattle.captions.specs.Entry.{headLength, mostSpace, ordinalBound, entryOf, keyOf, headOf, isBad, headJudged, putRefusal, headAfter};
 use refusal::Number;
 use refusal::Refusal;
 

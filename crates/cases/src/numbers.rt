@@ -6,8 +6,8 @@ use system::Walk;
 use timing::CodeReport;
 use timing::Report;
 
-// The most numbers of an answer: six of 64 bits, or those of a judgement.
-pub(crate) const MOST_NUMBERS: usize = 12;
+// The most numbers of an answer: those of a question to a finished file.
+pub(crate) const MOST_NUMBERS: usize = 17;
 
 // So many numbers, the first of the list. More than the list has room for are no answer.
 pub struct Numbers {
@@ -45,6 +45,10 @@ impl Numbers {
     pub fn with(self, number: u32) -> Numbers {
         let list = self.list;
         with_next(self.count, list, number)
+    }
+
+    pub fn with_byte(self, byte: u8) -> Numbers {
+        self.with(byte as u32)
     }
 
     // 1 for what is so, 0 for what is not.

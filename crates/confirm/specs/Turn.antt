@@ -1,21 +1,18 @@
 -- What one turn of confirming makes of the bytes in its buffer and of what a read told.
-use Prim.Native.Nat.{ℕ, _+_, _-_}
+use Prim.Native.Nat.{ℕ, _+_}
 use mathlib.Core.Bool.{true, false, cond, not, _||_}
 use mathlib.Core.List.{List}
 use lib.Dec.{eqb}
-use lib.ListN.{length, take, drop}
+use lib.ListN.{length}
 use Rattle.intake.specs.declared.Told.{Told}
 use Rattle.intake.specs.declared.Told.the-variants.{Failed, Ended, Bytes}
+use Rattle.intake.specs.Arrival.{part}
 use Rattle.confirmation.specs.declared.Run.{Run}
 use Rattle.confirmation.specs.declared.Followed.{Followed}
 use Rattle.confirmation.specs.Follow.{followedOf, closedOf}
 use Rattle.console.specs.declared.Read.{Read}
 use Rattle.console.specs.Status.{endedOf, unreadOf}
 use Rattle.confirm.specs.declared.Ready.{Ready}
-
--- the bytes of a buffer from one offset to another
-abbrev pub part : ℕ → ℕ → List ℕ → List ℕ
-part from to buffer = take (to - from) (drop from buffer)
 
 -- Where a run stands that took so many of the bytes from an offset on: a buffer that was taken to its end is filled from its start again.
 abbrev pub readyAfter : Followed → ℕ → ℕ → ℕ → Ready

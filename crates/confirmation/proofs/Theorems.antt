@@ -52,7 +52,7 @@ header-more h more i e l =
       List·getD-append h more 0 (i + 1) (omega arith),
     )
 
-begun-more : (h more : List ℕ) → length h ≡ headerLength → begunOf (h ++ more) ≡ begunOf h
+pub begun-more : (h more : List ℕ) → length h ≡ headerLength → begunOf (h ++ more) ≡ begunOf h
 unfolding begunOf
 begun-more h more e = rw (header-more h more 0 e (omega arith), header-more h more 2 e (omega arith))
 

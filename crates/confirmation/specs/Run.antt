@@ -5,6 +5,7 @@ use mathlib.Core.Bool.{cond}
 use lib.Dec.{ltb, eqb}
 use lib.ListN.{length, drop}
 use Rattle.intake.specs.Arrival.{allPieces}
+use Rattle.system.specs.declared.walk.Judgement.{Judgement}
 use Rattle.system.specs.Walk.{freshOf, lineBytes}
 use Rattle.words.specs.Bytes.{wordOfBytes}
 use Rattle.bytewise.specs.Bytes.{judgedBytes}
@@ -25,27 +26,28 @@ headerSystem bytes = headerWord bytes 0
 abbrev pub headerStart : List ℕ → ℕ
 headerStart bytes = headerWord bytes 2
 
--- a run after its header: a fresh walk, or its refusal
-unfoldable pub begunOf : List ℕ → Run
-begunOf bytes =
+-- a run of this system from this line on, before its lines: a fresh walk, or its refusal
+abbrev pub freshRun : ℕ → ℕ → Run
+freshRun system start =
     record {
-      system = headerSystem bytes;
-      start = headerStart bytes;
-      walk = freshOf (headerSystem bytes) (headerStart bytes) .walk;
-      number = freshOf (headerSystem bytes) (headerStart bytes) .number;
-      place = freshOf (headerSystem bytes) (headerStart bytes) .place;
+      system = system;
+      start = start;
+      walk = freshOf system start .walk;
+      number = freshOf system start .number;
+      place = freshOf system start .place;
     }
+
+-- a run after its header
+unfoldable pub begunOf : List ℕ → Run
+begunOf bytes = freshRun (headerSystem bytes) (headerStart bytes)
+
+-- a run whose next line was judged so
+abbrev pub runAfter : Run → Judgement → Run
+runAfter r j = record { system = r .system; start = r .start; walk = j .walk; number = j .number; place = j .place }
 
 -- a run after these bytes were judged as its next line: bytes short of a line are 3, "but any byte after 10,000,000 lines is refusal 4"
 unfoldable pub judgedNext : Run → List ℕ → Run
-judgedNext r bytes =
-    record {
-      system = r .system;
-      start = r .start;
-      walk = judgedBytes (r .walk) bytes .walk;
-      number = judgedBytes (r .walk) bytes .number;
-      place = judgedBytes (r .walk) bytes .place;
-    }
+judgedNext r bytes = runAfter r (judgedBytes (r .walk) bytes)
 
 -- "It stops at the first refusal."
 unfoldable pub through : Run → List (List ℕ) → Run

@@ -5,8 +5,9 @@ pub use totals::Totals;
 pub use totals::follows_on;
 ghost use mathlib.Core.Path.{_≡_};
 ghost use Prim.Native.Nat.{_+_, _≤_};
-ghost use Rattle.confirmation.specs.Run.{headerLength, headerWord, begunOf, judgedNext, outcomeOf};
+ghost use Rattle.confirmation.specs.Run.{headerLength, headerWord, freshRun, begunOf, runAfter, judgedNext, outcomeOf};
 ghost use Rattle.confirmation.specs.Follow.{followedOf, closedOf};
+use system::Judgement;
 use system::Walk;
 use words::word_of;
 
@@ -51,12 +52,10 @@ fn header_word(header: &[u8], at: usize) -> u32
 }
 
 impl Run {
-    // A run from its header, the first four bytes: a fresh walk, or its refusal. Under four bytes count as system 0, start 0.
-    pub fn begin(header: &[u8]) -> Run
-        ensures { λ r. ⌜ r ≡ begunOf (now (header .entry)) ⌝ }
+    // A run of this system from this line on, before its lines: a fresh walk, or its refusal.
+    pub fn fresh(system: u32, start: u32) -> Run
+        ensures { λ r. ⌜ r ≡ freshRun system start ⌝ }
     {
-        let system = header_word(header, 0);
-        let start = header_word(header, 2);
         let fresh = system::fresh_walk(system, start);
         let walk = fresh.walk;
         Run {
@@ -68,11 +67,17 @@ impl Run {
         }
     }
 
-    // The run after these bytes were judged as its next line: short of a line they are 3, after 10,000,000 lines 4.
-    pub fn next(self, bytes: &[u8]) -> Run
-        ensures { λ r. ⌜ r ≡ judgedNext self (now (bytes .entry)) ⌝ }
+    // A run from its header, the first four bytes: a fresh walk, or its refusal. Under four bytes count as system 0, start 0.
+    pub fn begin(header: &[u8]) -> Run
+        ensures { λ r. ⌜ r ≡ begunOf (now (header .entry)) ⌝ }
     {
-        let judgement = bytewise::judge(self.walk, bytes);
+        Run::fresh(header_word(header, 0), header_word(header, 2))
+    }
+
+    // The run whose next line was judged so.
+    pub fn judged(self, judgement: Judgement) -> Run
+        ensures { λ r. ⌜ r ≡ runAfter self judgement ⌝ }
+    {
         let walk = judgement.walk;
         Run {
             system: self.system,
@@ -81,6 +86,13 @@ impl Run {
             number: judgement.number,
             place: judgement.place,
         }
+    }
+
+    // The run after these bytes were judged as its next line: short of a line they are 3, after 10,000,000 lines 4.
+    pub fn next(self, bytes: &[u8]) -> Run
+        ensures { λ r. ⌜ r ≡ judgedNext self (now (bytes .entry)) ⌝ }
+    {
+        self.judged(bytewise::judge(self.walk, bytes))
     }
 
     // Judges every whole line of the bytes that lie ready, up to the first refusal, and says how many bytes it took.

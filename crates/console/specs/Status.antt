@@ -8,7 +8,7 @@ use Rattle.intake.specs.declared.Filled.{Filled}
 use Rattle.confirmation.specs.declared.Run.{Run}
 use Rattle.confirmation.specs.Run.{begunOf}
 use Rattle.console.specs.declared.Status.{Status}
-use Rattle.console.specs.declared.Status.the-variants.{Done, Refused, Unread, Unwritten, Failed}
+use Rattle.console.specs.declared.Status.the-variants.{Done, Refused, Unread, Shortened, Unwritten, Failed}
 use Rattle.console.specs.declared.Read.{Read}
 
 -- "0 where all was taken and written, 1 where something was refused, 2 where the system failed"
@@ -16,6 +16,7 @@ abbrev pub codeOf : Status → ℕ
 codeOf Done = 0
 codeOf Refused = 1
 codeOf Unread = 2
+codeOf Shortened = 2
 codeOf Unwritten = 2
 codeOf Failed = 2
 

@@ -1,12 +1,15 @@
 // What the verbs share: reading a recording's start, filling a buffer, and saying how a run goes and how it ended. What comes of these
 // calls is up to the system, so no contract can determine it.
+mod header;
 mod name;
-mod refusal;
+mod refused;
 
+pub use header::put_header;
 pub use name::put;
 pub use name::say_name;
-pub use refusal::say_place;
-pub use refusal::say_refused;
+pub use refused::say_place;
+pub use refused::say_refused;
+pub use refused::say_refused_file;
 ghost use mathlib.Core.Bool.{false};
 ghost use mathlib.Core.Path.{_≡_};
 ghost use Prim.Native.Nat.{_-_, _<_, _≤_};
@@ -20,6 +23,7 @@ use intake::Filled;
 use libc::STDERR_FILENO;
 use libc::STDIN_FILENO;
 use libc::STDOUT_FILENO;
+use std::num::wrapping_add_u64;
 use system::System;
 use system::System525;
 use system::System625;
@@ -33,6 +37,7 @@ pub enum Status {
     Done,
     Refused,
     Unread,
+    Shortened,
     Unwritten,
     Failed,
 }
@@ -46,6 +51,7 @@ impl Status {
             Status::Done => 0,
             Status::Refused => 1,
             Status::Unread => 2,
+            Status::Shortened => 2,
             Status::Unwritten => 2,
             Status::Failed => 2,
         }
@@ -55,6 +61,7 @@ impl Status {
     pub fn say_failure(self, verb: &[u8], name: &[u8]) {
         match self {
             Status::Unread => say_unread(verb, name),
+            Status::Shortened => say_shortened(verb, name),
             Status::Unwritten => say_unwritten(verb),
             _ => {}
         }
@@ -105,22 +112,37 @@ fn filled_by(got: isize, have: usize, buffer: &[u8]) -> Filled
     Filled::so_far(have).after(told, buffer.len() - have)
 }
 
+// Where bytes are read: where the last read ended, or from an offset of a file on.
+struct From {
+    is_offset: bool,
+    offset: u64,
+}
+
+// The place so many bytes behind an offset. No file has as many bytes as this wraps at.
+fn position(offset: u64, have: usize) -> i64 {
+    (wrapping_add_u64(offset, have as u64) % (1 << 62)) as i64
+}
+
 // Reads once into what is left of a buffer.
-fn fill_on(input: i32, have: usize, buffer: &mut [u8]) -> Filled
+fn fill_on(input: i32, from: From, have: usize, buffer: &mut [u8]) -> Filled
     requires { ⌜ have ≤ length (now buffer) ⌝ }
     ensures { λ r. ⌜ (r .have ≤ length (now (buffer .exit))) × (r .done ≡ false → have < r .have) ⌝ }
 {
+    if from.is_offset {
+        let got = libc::pread(input, &mut buffer[have..], position(from.offset, have));
+        return filled_by(got, have, buffer);
+    }
     let got = libc::read(input, &mut buffer[have..]);
     filled_by(got, have, buffer)
 }
 
 // Reads until the buffer is full, the input ends or a read fails: `Filled::after` says what each read comes to.
-pub fn fill(input: i32, buffer: &mut [u8]) -> Filled
+fn fill_from(input: i32, from: From, buffer: &mut [u8]) -> Filled
     ensures { λ r. ⌜ r .have ≤ length (now (buffer .exit)) ⌝ }
 {
     let mut have: usize = 0;
     while have < buffer.len() {
-        let filled = fill_on(input, have, buffer);
+        let filled = fill_on(input, from, have, buffer);
         if filled.done {
             return filled;
         }
@@ -131,6 +153,28 @@ pub fn fill(input: i32, buffer: &mut [u8]) -> Filled
         done: true,
         failed: false,
     }
+}
+
+// Fills a buffer, as far as the input goes.
+pub fn fill(input: i32, buffer: &mut [u8]) -> Filled
+    ensures { λ r. ⌜ r .have ≤ length (now (buffer .exit)) ⌝ }
+{
+    let from = From {
+        is_offset: false,
+        offset: 0,
+    };
+    fill_from(input, from, buffer)
+}
+
+// Fills a buffer from an offset of a file on, as far as the file goes.
+pub fn fill_at(input: i32, offset: u64, buffer: &mut [u8]) -> Filled
+    ensures { λ r. ⌜ r .have ≤ length (now (buffer .exit)) ⌝ }
+{
+    let from = From {
+        is_offset: true,
+        offset,
+    };
+    fill_from(input, from, buffer)
 }
 
 // What a header comes to, as far as it was filled.
@@ -298,6 +342,12 @@ pub fn say_unread(verb: &[u8], name: &[u8]) {
         io::write_all(STDERR_FILENO, b"the input");
     }
     os::fail(b" could not be read");
+}
+
+// Says that a file ended before the end that it had.
+fn say_shortened(verb: &[u8], name: &[u8]) {
+    say_of(verb, name);
+    io::write_all(STDERR_FILENO, b" became shorter while it was read\n");
 }
 
 // Says that a recording could not be opened, and why.

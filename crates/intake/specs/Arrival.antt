@@ -1,5 +1,5 @@
 -- How bytes arrive: what a read tells, how reads fill a buffer, how bytes are cut into pieces of one size, and how a state takes what arrives.
-use Prim.Native.Nat.{ℕ, zero, suc, _+_, _%_, _^_, _≤_}
+use Prim.Native.Nat.{ℕ, zero, suc, _+_, _-_, _%_, _^_, _≤_}
 use mathlib.Core.List.{List, [], _∷_, _++_}
 use mathlib.Core.Bool.{Bool, true, false, cond, _||_}
 use lib.Dec.{eqb}
@@ -37,6 +37,10 @@ abbrev pub filledAfter : Filled → Told → ℕ → Filled
 filledAfter f Failed room = record { have = f .have; done = true; failed = true }
 filledAfter f Ended room = record { have = f .have; done = true; failed = false }
 filledAfter f (Bytes count) room = record { have = (f .have + count) % 2 ^ 64; done = eqb count room; failed = false }
+
+-- the bytes of a buffer from one offset to another
+abbrev pub part : ℕ → ℕ → List ℕ → List ℕ
+part from to buffer = take (to - from) (drop from buffer)
 
 -- bytes cut into pieces of n, of which the last may be short; at most k of them
 unfoldable pub pieces : ℕ → ℕ → List ℕ → List (List ℕ)

@@ -1,9 +1,11 @@
-// Cases of the calls on bytes: words as bytes, rows, recording and extracting lines, confirming, sums over recordings, how bytes arrive, and the
-// packets file.
+// Cases of the calls on bytes: words as bytes, rows, recording and extracting lines, confirming, sums over recordings, how bytes arrive, the
+// packets file, and finished files.
 mod arrivals;
 mod bytes;
 mod extractors;
+mod finishes;
 mod heads;
+mod questions;
 mod recorders;
 mod runs;
 mod tapes;
@@ -23,6 +25,17 @@ fn answered_run(kind: u32, payload: &[u8]) -> Numbers {
     }
 }
 
+// Finished files, and the runs over their lines.
+fn answered_finish(kind: u32, payload: &[u8]) -> Numbers {
+    match kind {
+        140..=149 => questions::answer_case(kind, payload),
+        150..=159 => finishes::answer_case(kind, payload),
+        160 => runs::fresh(payload),
+        161 => runs::judged(payload),
+        _ => Numbers::none(),
+    }
+}
+
 // Tapes, how bytes arrive, and the packets file.
 fn answered_step(kind: u32, payload: &[u8]) -> Numbers {
     match kind {
@@ -32,7 +45,7 @@ fn answered_step(kind: u32, payload: &[u8]) -> Numbers {
         121 => arrivals::so_far(payload),
         122 => arrivals::after(payload),
         130 => heads::judge(payload),
-        _ => Numbers::none(),
+        _ => answered_finish(kind, payload),
     }
 }
 
@@ -59,6 +72,9 @@ pub fn answer_case(kind: u32, payload: &[u8], answer: &mut [u8]) -> usize {
         86 => extractors::with_room(kind, runs::RUN, payload, answer),
         114 => recorders::with_room(kind, tapes::TAPE, payload, answer),
         131 => heads::with_room(payload, answer),
+        141 => questions::with_room(kind, 8, payload, answer),
+        143 => questions::with_room(kind, 16, payload, answer),
+        151 => finishes::with_room(payload, answer),
         _ => put_numbers(answer, answered(kind, payload)),
     }
 }

@@ -2,10 +2,13 @@
 use cases::Numbers;
 use cases::count;
 use cases::number;
+use cases::report;
 use cases::walk;
 use confirmation::Followed;
 use confirmation::Outcome;
 use confirmation::Run;
+use system::Judgement;
+use system::PacketWords;
 
 // The bytes of the numbers that tell a run: system, start, its walk's four, number and place.
 pub(crate) const RUN: usize = 32;
@@ -35,6 +38,37 @@ pub(crate) fn begin(payload: &[u8]) -> Numbers {
         return Numbers::none();
     }
     of_run(Run::begin(&payload[4..]))
+}
+
+// Run::fresh.
+pub(crate) fn fresh(payload: &[u8]) -> Numbers {
+    if payload.len() != 8 {
+        return Numbers::none();
+    }
+    of_run(Run::fresh(number(payload, 0), number(payload, 4)))
+}
+
+// The judgement that the numbers behind a run tell.
+fn judgement(payload: &[u8]) -> Judgement {
+    Judgement {
+        number: number(payload, RUN),
+        place: count(payload, RUN + 4),
+        report: report(payload, RUN + 8),
+        walk: walk(payload, RUN + 24),
+        packets: PacketWords {
+            between: count(payload, RUN + 40),
+            active: count(payload, RUN + 44),
+        },
+    }
+}
+
+// Run::judged.
+pub(crate) fn judged(payload: &[u8]) -> Numbers {
+    if payload.len() != RUN + 48 {
+        return Numbers::none();
+    }
+    let before: Run = run(payload);
+    of_run(before.judged(judgement(payload)))
 }
 
 fn of_followed(followed: Followed) -> Numbers {

@@ -69,6 +69,14 @@ badChecksum = 16
 abbrev pub packetPast : ℕ
 packetPast = 17
 
+-- L10: "19 parts that don't fit, ordinals that do not rise or are not below lines, or repairs other than 1 or 2"
+abbrev pub badParts : ℕ
+badParts = 19
+
+-- "20 a range that leaves the file or has a after b"
+abbrev pub badRange : ℕ
+badRange = 20
+
 -- no number of the documents: an entry of a packets file is none, does not rise, or is for a line that is not written
 abbrev pub badEntry : ℕ
 badEntry = 22

@@ -64,6 +64,12 @@ impl Number {
     // A packet's user words and checksum run past the space.
     pub const PACKET_PAST: u32 = 17;
 
+    // The parts of a finished file do not fit, or its index is none.
+    pub const BAD_PARTS: u32 = 19;
+
+    // The lines asked for leave the file, or the first comes after the last.
+    pub const BAD_RANGE: u32 = 20;
+
     // An entry of a packets file is none, does not rise, or is for a line that is not written.
     pub const BAD_ENTRY: u32 = 22;
 }

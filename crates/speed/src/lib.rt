@@ -1,10 +1,11 @@
-// The calls of reader, writer and serial for C, so that a benchmark can time them beside C's own. Each answers the call's number.
+// The calls of reader, writer, serial and index for C, so that a benchmark can time them beside C's own. Each answers the call's number.
 ghost use mathlib.Core.Path.{_≡_};
 ghost use lib.ListN.{length};
 ghost use Rattle.system.specs.Walk.{freshWalk};
 ghost use Rattle.reader.specs.Judge.{judgedOf};
 ghost use Rattle.reader.specs.Take.{takeRefusal, takenOf, inTurn};
 ghost use Rattle.writer.specs.Write.{writeRefusal, lineAfter};
+ghost use Rattle.index.specs.Parts.{answerOf};
 ghost use Rattle.serial.specs.Calls.{codeAnswer, codeOutput, decodeAnswer, decodeOutput};
 use serial::State;
 use system::Walk;
@@ -103,4 +104,19 @@ pub extern "C" fn speed_decode(words: &[u16], out: &mut [u16]) -> u32
         words,
         out,
     ).number
+}
+
+#[no_mangle]
+pub extern "C" fn speed_ask(
+    system: u32,
+    start: u32,
+    trailer: &[u8],
+    index: &[u8],
+    length: u64,
+    a: u32,
+    b: u32,
+) -> u32
+    ensures { λ r. ⌜ r ≡ answerOf system start (now (trailer .entry)) (now (index .entry)) length a b .number ⌝ }
+{
+    index::ask(system, start, trailer, index, length, a, b).number
 }

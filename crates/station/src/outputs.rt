@@ -1,11 +1,6 @@
 // Where `record` writes: a recording on standard output, or a row of recordings in a folder.
 ghost use mathlib.Core.Path.{_≡_};
 ghost use mathlib.Core.Bool.{false};
-ghost use mathlib.Core.List.{[], _∷_};
-ghost use Prim.Native.Nat.{_%_};
-ghost use lib.ListN.{length};
-ghost use Rattle.words.specs.Bytes.{bytesOf};
-ghost use Rattle.confirmation.specs.Run.{headerLength};
 ghost use Rattle.programme.specs.Tape.{turnsAt, turnedOf, atLine};
 ghost use Rattle.console.specs.declared.Status.the-variants.{Failed};
 ghost use Rattle.station.specs.Turns.{endedOf, Goes};
@@ -14,25 +9,6 @@ use crate::taping::Taping;
 use crate::taping::open;
 use console::Status;
 use libc::STDERR_FILENO;
-use system::Walk;
-
-// A header: the system and the first line as words.
-fn fill_header(walk: Walk, header: &mut [u8])
-    requires { ⌜ length (now header) ≡ headerLength ⌝ }
-    ensures { λ _. ⌜ now (header .exit) ≡ bytesOf (walk .system % 65536 ∷ walk .line % 65536 ∷ []) ⌝ }
-{
-    words::to_bytes(
-        &[(walk.system % 65536) as u16, (walk.line % 65536) as u16],
-        header,
-    );
-}
-
-// Writes the header of a recording that begins with this walk. True where all of it was written.
-fn put_header(walk: Walk, file: i32) -> bool {
-    let mut header = [0u8; 4];
-    fill_header(walk, &mut header);
-    io::write_all(file, &header)
-}
 
 // A tape whose recording begins here: its header is written.
 fn begun(at: Taping) -> Taping
@@ -40,7 +16,7 @@ fn begun(at: Taping) -> Taping
 {
     let tape = at.tape;
     let output = at.output;
-    if put_header(tape.walk, output.file) {
+    if console::put_header(output.file, tape.walk) {
         return open(tape, output, at.entries);
     }
     at.ended(Status::Unwritten)

@@ -7,6 +7,10 @@ pub(crate) enum Verb {
     Record,
     Extract,
     Packets,
+    Finish,
+    Ask,
+    Check,
+    Unfinish,
     Scramble,
     Descramble,
     Help,
@@ -26,6 +30,18 @@ pub(crate) fn named(name: &[u8]) -> Verb {
     }
     if same(name, b"packets") {
         return Verb::Packets;
+    }
+    if same(name, b"finish") {
+        return Verb::Finish;
+    }
+    if same(name, b"ask") {
+        return Verb::Ask;
+    }
+    if same(name, b"check") {
+        return Verb::Check;
+    }
+    if same(name, b"unfinish") {
+        return Verb::Unfinish;
     }
     if same(name, b"scramble") {
         return Verb::Scramble;
@@ -60,12 +76,16 @@ pub(crate) fn print_usage(output: i32, verb: &[u8]) -> bool {
         ),
         Verb::Extract => form(output, b"extract [--packets FILE] [FILE | FOLDER]\n"),
         Verb::Packets => form(output, b"packets [FILE | FOLDER]\n"),
+        Verb::Finish => form(output, b"finish [RECORDING] FINISHED\n"),
+        Verb::Ask => form(output, b"ask FINISHED SYSTEM START A B\n"),
+        Verb::Check => form(output, b"check FINISHED SYSTEM START\n"),
+        Verb::Unfinish => form(output, b"unfinish FINISHED SYSTEM START\n"),
         Verb::Scramble => form(output, b"scramble\n"),
         Verb::Descramble => form(output, b"descramble\n"),
         Verb::Help => form(output, b"help [VERB]\n"),
         Verb::None => form(
             output,
-            b"confirm | record | extract | packets | scramble | descramble | help ..\n",
+            b"confirm | record | extract | packets | finish | ask | check | unfinish |\n                scramble | descramble | help ..\n",
         ),
     }
 }
@@ -79,6 +99,10 @@ fn print_general() -> bool {
         & line(b"  record       v210 rows into a recording, or into a row of them in a folder")
         & line(b"  extract      the v210 rows of a recording")
         & line(b"  packets      a list of the ancillary packets in a recording")
+        & line(b"  finish       a recording into a file that answers from its end")
+        & line(b"  ask          whether lines of a finished file are all clean, from its end")
+        & line(b"  check        whether all lines of a finished file bear that answer out")
+        & line(b"  unfinish     the recording that a finished file was made of")
         & line(b"  scramble     words as they go over the serial channel")
         & line(b"  descramble   the words that scramble was given")
         & line(b"  help [VERB]  this text, or a verb's")
@@ -120,6 +144,36 @@ fn print_packets() -> bool {
         & line(b"reads as extract does, and says what confirm says on standard error.")
 }
 
+fn print_finish() -> bool {
+    line(b"Makes a finished file of a recording (with no name that on standard input): its")
+        & line(b"lines, an index of those that were not clean, and a trailer. Says system, start,")
+        & line(b"lines and unclean lines: keep system and start, which the file has not. A refused")
+        & line(b"recording leaves no finished file, and a file that is there is not touched.")
+}
+
+fn print_ask() -> bool {
+    line(b"Tells whether lines A to B, ordinals from 0 and both included, are all clean: had")
+        & line(b"no repaired code. Reads the trailer and the index alone, however many lines there")
+        & line(b"are. What it tells is what reading every line would, where check finds the index")
+        & line(
+            b"to be theirs. Status: 0 for all clean, 1 for not, 2 where the file is refused (19,",
+        )
+        & line(b"or 20 for lines that it has not) or could not be read.")
+}
+
+fn print_check() -> bool {
+    line(b"Reads every line of a finished file and tells whether all are accepted and the")
+        & line(b"index is theirs, or the first that is refused, or the first where the index")
+        & line(b"differs. Status: 0 for yes, 1 for no, 2 where the file is refused or could not")
+        & line(b"be read.")
+}
+
+fn print_unfinish() -> bool {
+    line(b"Writes a finished file's lines behind a header to standard output: the recording")
+        & line(b"that it was made of, as confirm and extract take it. Status: 2 where the file is")
+        & line(b"refused or could not be read.")
+}
+
 fn print_coder() -> bool {
     line(b"Reads words of 16 bits, low byte first, from standard input, and writes such")
         & line(b"words to standard output. A word over 1023 is refused.")
@@ -131,6 +185,10 @@ fn print_text(verb: &[u8]) -> bool {
         Verb::Record => print_record(),
         Verb::Extract => print_extract(),
         Verb::Packets => print_packets(),
+        Verb::Finish => print_finish(),
+        Verb::Ask => print_ask(),
+        Verb::Check => print_check(),
+        Verb::Unfinish => print_unfinish(),
         Verb::Scramble => print_coder(),
         Verb::Descramble => print_coder(),
         _ => print_general(),

@@ -3,6 +3,7 @@ mod arguments;
 mod beside;
 mod filters;
 mod help;
+mod kept;
 mod options;
 mod recordings;
 mod tally;
@@ -55,6 +56,10 @@ fn run_verb(verb: &[u8]) -> u32 {
         Verb::Record => filters::record(),
         Verb::Extract => recordings::extract(),
         Verb::Packets => recordings::packets(),
+        Verb::Finish => kept::finish(),
+        Verb::Ask => kept::run(verb, 4),
+        Verb::Check => kept::run(verb, 2),
+        Verb::Unfinish => kept::unfinish(),
         Verb::Scramble => filters::code(verb, b"words", true),
         Verb::Descramble => filters::code(verb, b"channel words", false),
         _ => say_help(),

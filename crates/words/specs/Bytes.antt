@@ -1,7 +1,7 @@
 -- Document 01, "The confirming program and the capture process": words as bytes, "two per word, low byte first".
-use Prim.Native.Nat.{ℕ, _+_, _*_, _/_, _%_}
+use Prim.Native.Nat.{ℕ, zero, suc, _+_, _*_, _/_, _%_}
 use mathlib.Core.Path.{_≡_}
-use mathlib.Core.List.{List}
+use mathlib.Core.List.{List, [], _∷_}
 use mathlib.Core.Bool.{cond, not}
 use lib.ListN.{length, getD}
 use lib.Dec.{eqb}
@@ -26,6 +26,16 @@ byteOfWords words i = cond (eqb (i % 2) 0) (getD words (i / 2) 0 % 256) (getD wo
 -- the bytes of words
 unfoldable pub bytesOf : List ℕ → List ℕ
 bytesOf words = tab (2 * length words) (byteOfWords words)
+
+-- the number of n bytes from an offset on, low byte first
+unfoldable pub numberFrom : List ℕ → ℕ → ℕ → ℕ
+numberFrom bytes i zero = 0
+numberFrom bytes i (suc n) = getD bytes i 0 + 256 * numberFrom bytes (suc i) n
+
+-- the lowest n bytes of a number, low byte first
+unfoldable pub numberBytes : ℕ → ℕ → List ℕ
+numberBytes zero number = []
+numberBytes (suc n) number = number % 256 ∷ numberBytes n (number / 256)
 
 -- where so many bytes are not those of so many words, 3
 abbrev pub pairsRefusal : ℕ → ℕ → Refusal

@@ -3,9 +3,9 @@ use borrow.Author.Needs.{needs}
 use Prim.Native.Nat.{ℕ}
 use mathlib.Core.Path.{_≡_}
 use mathlib.Core.List.{List}
-use Rattle.words.specs.Bytes.{wordOfBytes}
+use Rattle.words.specs.Bytes.{wordOfBytes, numberFrom}
 use Rattle.captions.specs.declared.Entry.{Entry}
-use Rattle.captions.specs.Entry.{numberFrom, entryOf}
+use Rattle.captions.specs.Entry.{entryOf}
 use Rattle.captions.proofs.Heads.{of-two}
 use Rattle.captions.proofs.entry_of.Statement.{statement}
 use Rattle.captions.proofs.entry_of.Tie as tie

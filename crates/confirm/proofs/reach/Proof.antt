@@ -9,11 +9,12 @@ use lib.Dec.{eqb}
 use lib.ListN.{length, drop, length-drop}
 use lib.Seq.{length-take-le}
 use borrow.Author.Tests.{eq-eqb, ne-eqb}
+use Rattle.intake.specs.Arrival.{part}
 use Rattle.confirmation.specs.declared.Run.{Run}
 use Rattle.confirmation.specs.declared.Followed.{Followed}
 use Rattle.confirmation.specs.Follow.{followedOf}
 use Rattle.confirmation.proofs.Theorems.{taken-within}
-use Rattle.confirm.specs.Turn.{part, readyAfter, reachedOf}
+use Rattle.confirm.specs.Turn.{readyAfter, reachedOf}
 use Rattle.confirm.proofs.reach.Statement.{statement}
 use Rattle.confirm.proofs.reach.Tie as tie
 

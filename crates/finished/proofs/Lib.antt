@@ -1,0 +1,10 @@
+pub mod Entries
+pub mod Beside
+pub mod Follows
+pub mod Filling
+pub mod Makes
+pub mod Theorems
+pub mod Reading
+pub mod Making
+pub mod Promise
+pub mod Steps

@@ -1,0 +1,4 @@
+pub mod Reading
+pub mod Finish
+pub mod Check
+pub mod Promise

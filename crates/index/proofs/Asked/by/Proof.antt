@@ -1,0 +1,13 @@
+-- `index::Asked::by` meets its contract: a refusal never says clean. Assumes nothing.
+use borrow.Author.Tests.{eq-eqb, ne-eqb}
+use Rattle.index.proofs.Asked.by.Statement.{statement}
+use Rattle.index.proofs.Asked.by.Tie as tie
+
+returns : tie.Need-returns
+returns c = simp (ne-eqb _ _ (c .if1 .taken))
+
+returns-2 : tie.Need-returns-2
+returns-2 c = simp (eq-eqb _ _ (c .if1 .left))
+
+pub by-spec : {M : Type 1} → statement M
+by-spec = tie.close (tie.spec returns returns-2)
