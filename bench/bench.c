@@ -395,6 +395,8 @@ static void index_table(void) {
     asked_index[sizeof asked_index - 2] = 3;
     check(ask_of(0, 0) == 19, "the last entry is looked at");
     asked_index[sizeof asked_index - 2] = 1;
+    copy_index();
+    check(memcmp(copied_index, asked_index, sizeof asked_index) == 0, "memcpy copies");
     Row rows[] = {{"memcpy", copy_index, 0}, {"ask", ask, 0}};
     measure(rows, 2, 5);
     printf("a million entries      of memcpy\n%-22s %8.2f\n", "ask", rows[0].best / rows[1].best);

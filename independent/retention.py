@@ -106,15 +106,21 @@ class Finishing(Retaining):
             self.finish_into(data, name, "".join(f"{shown(each)}: " for each in names))
 
 
-class Asking(Retaining):
-    """ask FINISHED SYSTEM START A B"""
+class Finished(Retaining):
+    """A verb on a finished file and numbers, the system and the start line first."""
 
     def answer_to(self, words, data):
-        name, *numbers = words
-        system, start, a, b = map(number_of, numbers)
+        name, *texts = words
+        numbers = list(map(number_of, texts))
         data = self.read(name)
-        if data is None:
-            return
+        if data is not None:
+            self.answer_of(name, data, *numbers)
+
+
+class Asking(Finished):
+    """ask FINISHED SYSTEM START A B"""
+
+    def answer_of(self, name, data, system, start, a, b):
         asked = finished.ask(system, start, data, a, b)
         if asked.number:
             self.refuse(name, asked.number)
@@ -124,7 +130,7 @@ class Asking(Retaining):
             self.print(STOPPED, f"lines {a} to {b}: not all clean")
 
 
-class Checking(Retaining):
+class Checking(Finished):
     """check FINISHED SYSTEM START"""
 
     def tell(self, checked):
@@ -139,12 +145,7 @@ class Checking(Retaining):
             refusal = f"line {run.walk.line} refused {run.number}, place {run.place}"
             self.print(STOPPED, f"ordinal {run.walk.lines_read}: {refusal}")
 
-    def answer_to(self, words, data):
-        name, *numbers = words
-        system, start = map(number_of, numbers)
-        data = self.read(name)
-        if data is None:
-            return
+    def answer_of(self, name, data, system, start):
         checked = finished.check(system, start, data)
         if checked.refusal:
             self.refuse(name, checked.refusal[0])
@@ -152,15 +153,10 @@ class Checking(Retaining):
             self.tell(checked)
 
 
-class Unfinishing(Retaining):
+class Unfinishing(Finished):
     """unfinish FINISHED SYSTEM START"""
 
-    def answer_to(self, words, data):
-        name, *numbers = words
-        system, start = map(number_of, numbers)
-        data = self.read(name)
-        if data is None:
-            return
+    def answer_of(self, name, data, system, start):
         refusal, recording = finished.unfinish(system, start, data)
         if refusal:
             self.refuse(name, refusal[0])

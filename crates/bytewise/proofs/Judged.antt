@@ -1,8 +1,9 @@
 -- What the judgement of a line's bytes is, refusal by refusal, and where the fast pass finds it well. Assumes nothing.
-use Prim.Native.Nat.{ℕ, _+_, _*_, _<_, _≤_}
+use Prim.Native.Nat.{ℕ, suc, _+_, _*_, _<_, _≤_}
 use mathlib.Core.Path.{_≡_, sym, ap, _∙_}
 use mathlib.Core.List.{List}
 use native.Mathlib.Omega.{arith}
+use native.Mathlib.Numerals.{add-one}
 use lib.ListN.{length}
 use Rattle.refusal.specs.declared.Refusal.{Refusal}
 use Rattle.refusal.specs.Numbers.{wrongLength}
@@ -16,16 +17,17 @@ use Rattle.timing.specs.Report.{codeReportOf}
 use Rattle.system.specs.declared.System.{System}
 use Rattle.system.specs.declared.due.Due.{Due}
 use Rattle.system.specs.declared.walk.Walk.{Walk}
+use Rattle.system.specs.declared.walk.Judgement.{Judgement}
 use Rattle.system.specs.declared.walk.PacketWords.{PacketWords}
 use Rattle.system.specs.Figures.{savOffset, lineLength, systemOf}
 use Rattle.system.specs.Due.{dueOf}
-use Rattle.system.specs.Walk.{walkRefusal, standingRefusal, lineBytes, dueBy, dueIn}
+use Rattle.system.specs.Walk.{walkRefusal, standingRefusal, advancedOf, lineBytes, dueBy, dueIn}
 use Rattle.system.specs.Judgement.{refusedAt, movedAt}
-use Rattle.system.proofs.Laws.{line-is-parts, due-system, standing-walk, standing-length, accepted-stood}
+use Rattle.system.proofs.Laws.{Good, accepted-good, line-is-parts, due-system, standing-walk, standing-length, accepted-stood}
 use Rattle.line.specs.Fault.{faultAt, wordRefusal, countsOf}
 use Rattle.line.specs.Parts.{Proper}
 use Rattle.reader.specs.Judge.{reportOf}
-use Rattle.reader.proofs.Judged.{line-standing, line-words, judged-refused, judged-moved}
+use Rattle.reader.proofs.Judged.{accepted, judged-accepted, number-judged, line-standing, line-words, judged-refused, judged-moved}
 use Rattle.bytewise.specs.declared.pass.Codes.{Codes}
 use Rattle.bytewise.specs.Bytes.{judgedBytes}
 use Rattle.bytewise.specs.Passes.{LineBytes, Corrected, lineWord, LineWell}
@@ -118,3 +120,23 @@ module _ (w : Walk) (bytes : List ℕ) where
             judged-moved (length bytes) (lineBytes w) w (wordsOf bytes)
             (same-number (line-words (length bytes) (lineBytes w) w (wordsOf bytes) stands ∙ no-fault packets found))
             ∙ rw (e ∙ reported told, counted packets found, in-line)
+
+-- ---- An accepted line: the walk refused none, the line had its bytes, and it was counted.
+pub record Counted (w : Walk) (bytes : List ℕ) : Type 0 where
+  pub good : Good w
+  pub size : length bytes ≡ lineBytes w
+  pub lines : judgedBytes w bytes .walk .lines ≡ suc (w .lines)
+  pub system : judgedBytes w bytes .walk .system ≡ w .system
+
+pub accepted-counted : (w : Walk) (bytes : List ℕ) → judgedBytes w bytes .number ≡ 0 → Counted w bytes
+unfolding advancedOf
+accepted-counted w bytes z =
+    let well = sym (number-judged (length bytes) (lineBytes w) w (wordsOf bytes)) ∙ z in
+    let a = accepted (length bytes) (lineBytes w) w (wordsOf bytes) well in
+    let e = judged-accepted (length bytes) (lineBytes w) w (wordsOf bytes) well in
+    record {
+      good = accepted-good w (a .walk);
+      size = a .size;
+      lines = ap (λ (j : Judgement). j .walk .lines) e ∙ add-one (w .lines);
+      system = ap (λ (j : Judgement). j .walk .system) e;
+    }

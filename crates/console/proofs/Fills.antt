@@ -22,6 +22,10 @@ filled-within f Failed room w small = (omega arith, λ e. absurd (true≢false e
 filled-within f Ended room w small = (omega arith, λ e. absurd (true≢false e))
 filled-within f (Bytes count) room w small = (omega (arith, w .0, w .1), λ e. omega (arith, w .0, w .1))
 
+-- bytes that were told of have room
+pub room-for : (told : Told) (count room : ℕ) → told ≡ Bytes count → WithinRoom told room → count ≤ room
+room-for told count room e w = subst (λ (t : Told). WithinRoom t room) e w .1
+
 -- what a count tells of a read into what is behind the first bytes of a buffer
 pub told-behind : (buffer : List ℕ) (have : ℕ) (got : ℤ) (told : Told) → have ≤ length buffer → SFits w64 got
     → (told ≡ toldOf (toZ w64 (ofZ w64 got)) (length (take (length buffer - have) (drop have buffer))))

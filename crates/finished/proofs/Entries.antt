@@ -7,7 +7,7 @@ use native.Mathlib.Omega.{arith}
 use lib.ListN.{length, getD, take, drop, length-drop, take-append-drop, drop-of-length-le}
 use lib.Seq.{drop-cons, take-all, length-take-le}
 use lib.Dec.{ltb}
-use borrow.Author.Tests.{ltb-true, ltb-false}
+use borrow.Author.Tests.{ltb-true, ltb-false, eq-eqb}
 use Rattle.refusal.proofs.Cases.{by-test}
 use Rattle.index.specs.declared.entry.Entry.{Entry}
 use Rattle.index.specs.Entries.{entryLength, entryOf, entriesOf}
@@ -93,6 +93,12 @@ differ-append (e ∷ es) (f ∷ fs) more rest l ends =
     by-test (sameEntry e f)
     (λ t. simp t (differ-append es fs more rest (omega arith) (λ m. ends (omega arith))))
     (λ t. simp t)
+
+-- the same entries do not differ
+pub differ-never : (es : List Entry) → differing es es ≡ noDifference
+unfolding differing
+differ-never [] = refl
+differ-never (e ∷ es) = simp (eq-eqb (e .ordinal) _ refl, eq-eqb (e .repairs) _ refl) (differ-never es)
 
 -- the same of bytes, of which the first are a whole number of entries
 pub differ-behind : (ours more theirs : List ℕ) → Entire ours → Entire theirs

@@ -16,7 +16,8 @@ use Rattle.index.specs.declared.entry.Entry.{Entry}
 use Rattle.index.specs.Entries.{indexFrom, indexBytes}
 use Rattle.finished.specs.Reading.{reportsOf, AllAccepted, repairsOfAll}
 use Rattle.finished.specs.Finish.{lineRepairs, lineAdds, countedIn, finishedNext, Making, withLine, makeThrough}
-use Rattle.finished.proofs.Reading.{accepted-counted, accepted-through, through-lines}
+use Rattle.bytewise.proofs.Judged.{accepted-counted}
+use Rattle.finished.proofs.Reading.{accepted-through, through-lines}
 
 -- the index of lines with these reports, from a walk on
 abbrev pub indexAt : Walk → List (List ℕ) → List Entry

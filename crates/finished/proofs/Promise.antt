@@ -4,13 +4,13 @@ use Prim.Native.Nat.{ℕ, zero, suc, _+_, _*_, _-_, _^_, _<_, _≤_}
 use mathlib.Core.Path.{_≡_, refl, sym, ap, ap₂, subst, _∙_}
 use mathlib.Core.List.{List, [], _∷_, _++_, append-assoc}
 use mathlib.Core.Logic.{⊎-elim}
-use mathlib.Core.Bool.{true, false, cond, not, true≢false}
+use mathlib.Core.Bool.{true, false, cond, not, _&&_, true≢false}
 use native.Mathlib.Omega.{arith}
 use native.Mathlib.Nat.{eq-of-mul-eq-mul-right}
-use lib.Dec.{eqb, ltb}
-use lib.ListN.{length, getD, take, drop, length-append}
+use lib.Dec.{eqb, leb, ltb}
+use lib.ListN.{length, getD, take, drop, length-append, length-drop}
 use lib.Seq.{take-at, drop-at, length-take-le}
-use borrow.Author.Tests.{eq-eqb, ne-eqb, eqb-true, eqb-false, ltb-true, ltb-false}
+use borrow.Author.Tests.{eq-eqb, ne-eqb, eqb-true, eqb-false, leb-true, ltb-true, ltb-false}
 use Rattle.refusal.specs.Numbers.{badParts}
 use Rattle.refusal.specs.Answer.{none, refuse}
 use Rattle.refusal.proofs.Cases.{by-test, and-true, not-true, not-false}
@@ -30,17 +30,20 @@ use Rattle.index.specs.declared.trailer.Trailer.{Trailer}
 use Rattle.index.specs.declared.Asked.{Asked}
 use Rattle.index.specs.Entries as entries
 use Rattle.index.specs.Entries.{entryLength, indexOf, indexBytes, entriesOf, entriesWell, repairsFrom, Bytes}
-use Rattle.index.specs.Parts.{trailerLength, trailerBytes, offsetIn, entriesIn, linesIn, lineSize, indexPart, trailerIn, indexIn, linesPart, sound, partsRefusal}
-use Rattle.index.specs.Refusals.{Sound}
+use Rattle.index.specs.Asking as question
+use Rattle.index.specs.Asking.{trailerFits}
+use Rattle.index.specs.Parts.{trailerLength, trailerBytes, trailerOf, offsetIn, entriesIn, linesIn, lineSize, indexPart, trailerIn, indexIn, linesPart, sound, partsRefusal}
+use Rattle.index.specs.Refusals.{Fits, Sound}
 use Rattle.index.proofs.Entries.{entries-back, index-well, index-small, index-count, index-length, bytes-back, Well, well, well-back, repairs-back}
-use Rattle.index.proofs.Conditions.{sound-conditions, rises-well}
+use Rattle.index.proofs.Conditions.{sound-conditions, well-rises, rises-well}
 use Rattle.index.proofs.Theorems as index
 use Rattle.timing.specs.declared.Report.{Report}
 use Rattle.finished.specs.declared.meeting.Meeting.{Meeting}
 use Rattle.finished.specs.Reading.{reportsOf, AllAccepted, repairsOfAll}
 use Rattle.finished.specs.Finish.{Making, freshMaking, makeThrough, makeBody, trailerOfLines, fileOf, finishedOf}
 use Rattle.finished.specs.Check.{sameEntry, differing, isTheirs, makingIn, meetingIn, fileRefusal, checkedOf}
-use Rattle.finished.specs.Promise.{linesOf, reportsIn, Theirs, AnswersAsReading, CheckDecides, FinishedChecks, TheirsMet, LinesBack, UnfitUnanswered, toldIn, FirstDifference, DiffersFirst}
+use Rattle.finished.specs.Promise.{linesOf, reportsIn, Theirs, AnswersAsReading, CheckDecides, TheirsUnrefused, FinishedChecks, TheirsMet, LinesBack, UnfitUnanswered, toldIn, FirstDifference, DiffersFirst}
+use Rattle.finished.proofs.Entries.{differ-never}
 use Rattle.finished.proofs.Reading.{through-accepted, through-system, lines-counted, lines-fit, reports-counted, repairs-counted, each-repairs, clean-reports, reports-clean}
 use Rattle.finished.proofs.Making.{made-run, made-number, made-lines, made-index, made-entries}
 
@@ -60,11 +63,6 @@ same-entry : (e f : Entry) → sameEntry e f ≡ true → e ≡ f
 same-entry e f t =
     let both = and-true (eqb (e .ordinal) (f .ordinal)) (eqb (e .repairs) (f .repairs)) t in
     ap₂ (λ (ordinal repairs : ℕ). record { ordinal = ordinal; repairs = repairs }) (eqb-true _ _ (both .0)) (eqb-true _ _ (both .1))
-
-pub none-differs : (es : List Entry) → differing es es .differs ≡ false
-unfolding differing
-none-differs [] = refl
-none-differs (e ∷ es) = simp (eq-eqb (e .ordinal) (e .ordinal) refl, eq-eqb (e .repairs) (e .repairs) refl) (none-differs es)
 
 pub differs-not : (es fs : List Entry) → differing es fs .differs ≡ false → es ≡ fs
 unfolding differing
@@ -203,11 +201,10 @@ stood system start file accepted =
           (not-false fits (not-made (not fits) badParts 0 (λ z. omega arith) (both .1)));
     }
 
--- its lines take as many bytes as the trailer tells
-module _ (system start : ℕ) (file : List ℕ) (s : Stood system start file) where
+-- where the parts fit, lines take as many bytes as the trailer tells
+module _ (system start : ℕ) (file : List ℕ) (fits : Fits (lineSize system) (trailerIn file) (indexIn file) (length file)) where
   lines-length : length (linesPart file) ≡ linesIn (trailerIn file) * lineSize system
-  lines-length =
-      length-take-le (offsetIn (trailerIn file)) file (omega (arith, s .sound .fits .whole)) ∙ s .sound .fits .offset
+  lines-length = length-take-le (offsetIn (trailerIn file)) file (omega (arith, fits .whole)) ∙ fits .offset
 
   told-lines : AllAccepted (freshWalk system start) (linesOf system file) → length (repairs system start (linesPart file)) ≡ linesIn (trailerIn file)
   told-lines all =
@@ -219,7 +216,7 @@ pub answered : AnswersAsReading
 answered system start file a b accepted theirs within =
     let s = stood system start file accepted in
     let reports = reportsIn system start file in
-    let count = told-lines system start file s (theirs .accepted) in
+    let count = told-lines system start file (s .sound .fits) (theirs .accepted) in
     let answer =
     index.theirs-answered system start (trailerIn file) (indexIn file) (length file) (named-none system start (s .named)) (s .sound) (repairsOfAll reports) a b
     (record { each = each-repairs reports; count = count; same = sym (theirs .index) }) within in
@@ -232,9 +229,9 @@ answered system start file a b accepted theirs within =
     }
 
 -- ---- `check-decides`.
-module _ (system start : ℕ) (file : List ℕ) (s : Stood system start file) where
+module _ (system start : ℕ) (file : List ℕ) (named : namedRefusal system start .number ≡ 0) where
   reading-made : makingIn system start file ≡ made system start (linesPart file)
-  reading-made = body-made system start (linesPart file) (s .named)
+  reading-made = body-made system start (linesPart file) named
 
   checked-made : checkedOf system start file
       ≡ isTheirs (made system start (linesPart file) .finishing .run)
@@ -251,30 +248,88 @@ module _ (system start : ℕ) (file : List ℕ) (s : Stood system start file) wh
         eq-eqb _ _ (made-number (linesOf system file) (freshMaking (runAt system start)) refl all),
         theirs .index,
         index-made system start (linesPart file) all,
-        none-differs (entriesOf (indexPart (repairs system start (linesPart file)))),
+        differ-never (entriesOf (indexPart (repairs system start (linesPart file)))),
       )
 
-  checked-theirs : Bytes file → checkedOf system start file ≡ true → Theirs system start file
-  unfolding isTheirs
-  checked-theirs bytes says =
-      let m = made system start (linesPart file) in
-      let ours = entriesOf (m .index) in
-      let those = entriesOf (indexIn file) in
-      let both = and-true (eqb (m .finishing .run .number) 0) (not (differing ours those .differs)) (sym checked-made ∙ says) in
-      let all = made-accepted system start (linesPart file) (eqb-true _ _ (both .0)) in
+  -- what yes says: all lines are accepted, and the index holds their entries
+  module _ (says : checkedOf system start file ≡ true) where
+    said : (made system start (linesPart file) .finishing .run .number ≡ 0)
+        × (entriesOf (indexIn file) ≡ entriesOf (made system start (linesPart file) .index))
+    unfolding isTheirs
+    said =
+        let m = made system start (linesPart file) in
+        let ours = entriesOf (m .index) in
+        let those = entriesOf (indexIn file) in
+        let both = and-true (eqb (m .finishing .run .number) 0) (not (differing ours those .differs)) (sym checked-made ∙ says) in
+        (eqb-true _ _ (both .0), sym (differs-not ours those (not-true _ (both .1))))
+
+    said-accepted : AllAccepted (freshWalk system start) (linesOf system file)
+    said-accepted = made-accepted system start (linesPart file) (said .0)
+
+    their-entries : entriesOf (indexIn file) ≡ indexOf (repairs system start (linesPart file))
+    their-entries = said .1 ∙ entries-made system start (linesPart file) said-accepted
+
+  checked-theirs : Fits (lineSize system) (trailerIn file) (indexIn file) (length file) → Bytes file → checkedOf system start file ≡ true
+      → Theirs system start file
+  checked-theirs fits bytes says =
       let trailer = trailerIn file in
       let part = bytes-take (entryLength * entriesIn trailer) (drop (offsetIn trailer) file) (bytes-drop (offsetIn trailer) file bytes) in
       record {
-        accepted = all;
-        index =
-            sym (bytes-back (entriesIn trailer) (indexIn file) part (s .sound .fits .entries))
-            ∙ ap indexBytes (sym (differs-not ours those (not-true _ (both .1))) ∙ entries-made system start (linesPart file) all);
+        accepted = said-accepted says;
+        index = sym (bytes-back (entriesIn trailer) (indexIn file) part (fits .entries)) ∙ ap indexBytes (their-entries says);
       }
 
 pub check-decides : CheckDecides
 check-decides system start file bytes accepted =
     let s = stood system start file accepted in
-    (checked-theirs system start file s bytes, theirs-checked system start file s)
+    (checked-theirs system start file (s .named) (s .sound .fits) bytes, theirs-checked system start file (s .named))
+
+-- ---- `theirs-unrefused`.
+-- a trailer that a question finds to fit
+module _ (system start : ℕ) (file : List ℕ) (begun : question.begunOf system start (trailerIn file) (length file) 0 0 .wrong ≡ false) where
+  abbrev at-end : List ℕ
+  at-end = trailerIn file
+
+  abbrev end-told : Trailer
+  end-told = trailerOf at-end
+
+  end-both : (length at-end ≡ trailerLength) × (trailerFits (lineSize system) end-told (length file) ≡ true)
+  unfolding question.begunOf
+  end-both =
+      let two = and-true (eqb (length at-end) trailerLength) (trailerFits (lineSize system) end-told (length file)) (not-false _ begun) in
+      (eqb-true _ _ (two .0), two .1)
+
+  end-tells : end-told ≡ record { offset = offsetIn at-end; entries = entriesIn at-end; lines = linesIn at-end }
+  unfolding trailerOf
+  end-tells = simp (eq-eqb (length at-end) trailerLength (end-both .0))
+
+  trailer-fits : Fits (lineSize system) at-end (indexIn file) (length file)
+  unfolding trailerFits
+  trailer-fits =
+      let fits = rw end-tells at (end-both .1) in
+      let two = and-true (leb (linesIn at-end) mostLines && eqb (offsetIn at-end) (linesIn at-end * lineSize system)) _ fits in
+      let lines = and-true (leb (linesIn at-end) mostLines) _ (two .0) in
+      let whole : offsetIn at-end + entryLength * entriesIn at-end + trailerLength ≡ length file = eqb-true _ _ (two .1) in
+      let entries : length (indexIn file) ≡ entryLength * entriesIn at-end =
+      length-take-le (entryLength * entriesIn at-end) (drop (offsetIn at-end) file) (omega (arith, length-drop (offsetIn at-end) file)) in
+      record {
+        trailer = end-both .0;
+        few = leb-true _ _ (lines .0);
+        offset = eqb-true _ _ (lines .1);
+        entries = entries;
+        whole = omega (arith, entries, whole);
+      }
+
+pub theirs-unrefused : TheirsUnrefused
+theirs-unrefused system start file named begun says =
+    let n = same-number named in
+    let fits = trailer-fits system start file begun in
+    let all = said-accepted system start file n says in
+    let rs = repairs system start (linesPart file) in
+    let well = index-well rs 0 0 (linesIn (trailerIn file)) (each-repairs (reportsIn system start file)) (omega arith) (omega (arith, told-lines system start file fits all)) in
+    let those = entriesOf (indexIn file) in
+    let rises = well-rises those 0 (linesIn (trailerIn file)) (rw (their-entries system start file n says) well) in
+    index.sound-accepted system start _ _ _ named (record { fits = fits; rises = rises })
 
 -- ---- What is finished of a recording that is confirmed.
 module _ (recording : List ℕ) (confirmed : confirmedOf recording .number ≡ 0) where
@@ -324,9 +379,9 @@ module _ (recording : List ℕ) (confirmed : confirmedOf recording .number ≡ 0
 -- ---- `finished-checks`, `lines-back`, and that the hypotheses of `answered` can be met.
 pub finished-checks : FinishedChecks
 finished-checks recording confirmed =
-    let accepted = finished-accepted recording confirmed in
-    let s = stood (headerSystem recording) (headerStart recording) (finishedOf recording) accepted in
-    (accepted, theirs-checked (headerSystem recording) (headerStart recording) (finishedOf recording) s (finished-theirs recording confirmed))
+    let checked =
+    theirs-checked (headerSystem recording) (headerStart recording) (finishedOf recording) (named recording confirmed) (finished-theirs recording confirmed) in
+    (finished-accepted recording confirmed, checked)
 
 pub lines-back : LinesBack
 lines-back recording confirmed = finished-lines recording confirmed
@@ -478,9 +533,9 @@ differs-first system start file accepted all d =
     let rs = repairsOfAll reports in
     let n = linesIn (trailerIn file) in
     let those = entriesOf (indexIn file) in
-    let count = told-lines system start file s all in
+    let count = told-lines system start file (s .sound .fits) all in
     let meets : meetingIn system start file ≡ differing (indexOf rs) those =
-    ap (λ (m : Making). differing (entriesOf (m .index)) those) (reading-made system start file s)
+    ap (λ (m : Making). differing (entriesOf (m .index)) those) (reading-made system start file (s .named))
     ∙ ap (λ (es : List Entry). differing es those) (entries-made system start (linesPart file) all) in
     let ours-well = index-well rs 0 0 n (each-repairs reports) (omega arith) (omega (arith, count)) in
     let those-well = rises-well those 0 n (λ l. omega arith) (s .sound .rises) in

@@ -7,7 +7,6 @@ use mathlib.Core.List.{List·Memᴰ, List·Memᴰ·not-nil, List·Memᴰ·cases-
 use mathlib.Core.Logic.{⊎-elim}
 use mathlib.Core.Bool.{true}
 use native.Mathlib.Omega.{arith}
-use native.Mathlib.Numerals.{add-one}
 use lib.Dec.{eqb, ltb}
 use lib.ListN.{length, getD, length-append, List·getD-eq-default}
 use borrow.Author.Tests.{eq-eqb, eqb-true, eqb-false, ltb-true, ltb-false}
@@ -19,13 +18,12 @@ use Rattle.timing.specs.declared.CodeReport.the-variants.{Clean, Repaired}
 use Rattle.timing.specs.declared.Report.{Report}
 use Rattle.timing.specs.Report.{repairsIn, repairsOf, cleanReport}
 use Rattle.system.specs.declared.walk.Walk.{Walk}
-use Rattle.system.specs.declared.walk.Judgement.{Judgement}
 use Rattle.system.specs.Figures.{lineLength, systemOf}
-use Rattle.system.specs.Walk.{mostLines, advancedOf, lineBytes}
-use Rattle.system.proofs.Laws.{Good, accepted-good, at-most-two}
-use Rattle.words.specs.Bytes.{wordsOf}
-use Rattle.reader.proofs.Judged.{accepted, judged-accepted, number-judged}
+use Rattle.system.specs.Walk.{mostLines, lineBytes}
+use Rattle.system.proofs.Laws.{at-most-two}
+use Rattle.reader.proofs.Judged.{accepted}
 use Rattle.bytewise.specs.Bytes.{judgedBytes}
+use Rattle.bytewise.proofs.Judged.{accepted-counted}
 use Rattle.confirmation.specs.declared.Run.{Run}
 use Rattle.confirmation.specs.Run.{judgedNext, through}
 use Rattle.confirmation.proofs.Nexts.{next-system}
@@ -33,26 +31,6 @@ use Rattle.confirmation.proofs.Bodies.{line-has-bytes, through-ended}
 use Rattle.index.specs.Entries.{Repairs, no-line, line, clean}
 use Rattle.index.proofs.Entries.{clean-each, clean-all}
 use Rattle.finished.specs.Reading.{reportsOf, AllAccepted, repairsOfAll, AllClean}
-
--- ---- An accepted line: the walk refused none, the line had its bytes, and it was counted.
-pub record Counted (w : Walk) (bytes : List ℕ) : Type 0 where
-  pub good : Good w
-  pub size : length bytes ≡ lineBytes w
-  pub lines : judgedBytes w bytes .walk .lines ≡ suc (w .lines)
-  pub system : judgedBytes w bytes .walk .system ≡ w .system
-
-pub accepted-counted : (w : Walk) (bytes : List ℕ) → judgedBytes w bytes .number ≡ 0 → Counted w bytes
-unfolding advancedOf
-accepted-counted w bytes z =
-    let well = sym (number-judged (length bytes) (lineBytes w) w (wordsOf bytes)) ∙ z in
-    let a = accepted (length bytes) (lineBytes w) w (wordsOf bytes) well in
-    let e = judged-accepted (length bytes) (lineBytes w) w (wordsOf bytes) well in
-    record {
-      good = accepted-good w (a .walk);
-      size = a .size;
-      lines = ap (λ (j : Judgement). j .walk .lines) e ∙ add-one (w .lines);
-      system = ap (λ (j : Judgement). j .walk .system) e;
-    }
 
 -- ---- A run goes on exactly where all lines are accepted.
 through-next : (r : Run) (bytes : List ℕ) (rest : List (List ℕ)) → r .number ≡ 0 → through r (bytes ∷ rest) ≡ through (judgedNext r bytes) rest

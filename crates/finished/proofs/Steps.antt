@@ -1,6 +1,6 @@
 -- The promises on finishing and on the full check in steps: each is the whole, by what holds of pieces. Assumes nothing.
 use Prim.Native.Nat.{ℕ}
-use mathlib.Core.Path.{_≡_, sym, ap, ap₂, _∙_}
+use mathlib.Core.Path.{sym, ap, ap₂, _∙_}
 use mathlib.Core.List.{List, _++_, flatten}
 use lib.ListN.{length, drop}
 use lib.Seq.{drop-at}
@@ -9,12 +9,11 @@ use Rattle.confirmation.specs.declared.Run.{Run}
 use Rattle.confirmation.specs.Run.{headerLength, freshRun, begunOf}
 use Rattle.confirmation.proofs.Theorems.{begun-more}
 use Rattle.index.specs.Entries.{entriesOf}
-use Rattle.index.specs.Parts.{lineSize, trailerIn, indexIn, linesPart}
+use Rattle.index.specs.Parts.{lineSize, trailerIn, indexIn}
 use Rattle.index.proofs.Answers.{parts-sound}
 use Rattle.index.proofs.Conditions.{sound-conditions}
-use Rattle.finished.specs.declared.meeting.Meeting.{Meeting}
-use Rattle.finished.specs.Finish.{Making, freshMaking, makeBody, making, fileOf, finishedOf}
-use Rattle.finished.specs.Check.{differing, Entire, isTheirs, fileRefusal}
+use Rattle.finished.specs.Finish.{Making, freshMaking, makeBody, fileOf, finishedOf}
+use Rattle.finished.specs.Check.{differing, Entire, isTheirs}
 use Rattle.finished.specs.Promise.{FinishInSteps, CheckInSteps}
 use Rattle.finished.proofs.Theorems.{finish-any-pieces, met-pieces}
 

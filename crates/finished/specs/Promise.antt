@@ -6,12 +6,13 @@ use mathlib.Core.Bool.{true, false}
 use lib.ListN.{length, getD, drop}
 use Rattle.refusal.specs.Answer.{none}
 use Rattle.timing.specs.declared.Report.{Report}
-use Rattle.system.specs.Walk.{freshWalk}
+use Rattle.system.specs.Walk.{freshWalk, namedRefusal}
 use Rattle.intake.specs.Arrival.{allPieces, fedBy}
 use Rattle.confirmation.specs.Run.{headerLength, headerSystem, headerStart, freshRun, begunOf, confirmedOf}
 use Rattle.index.specs.declared.Asked.{Asked}
 use Rattle.index.specs.Entries.{Bytes, entriesOf, repairsFrom}
 use Rattle.index.specs.Parts.{lineSize, trailerIn, indexIn, linesIn, linesPart, indexPart, answerOf}
+use Rattle.index.specs.Asking as question
 use Rattle.index.specs.Refusals.{Sound, Within}
 use Rattle.finished.specs.Reading.{reportsOf, AllAccepted, repairsOfAll, AllClean}
 use Rattle.finished.specs.Finish.{freshMaking, making, fileOf, finishedOf}
@@ -51,6 +52,14 @@ abbrev pub CheckDecides : Type 0
 CheckDecides =
     (system start : ℕ) (file : List ℕ) → Bytes file → fileRefusal system start file ≡ none
     → (checkedOf system start file ≡ true → Theirs system start file) × (Theirs system start file → checkedOf system start file ≡ true)
+
+-- `theirs-unrefused`: where the system, the start line and the trailer are not refused, what the full check says yes to is refused nothing, so
+-- that the index need not be looked at for 19 first
+abbrev pub TheirsUnrefused : Type 0
+TheirsUnrefused =
+    (system start : ℕ) (file : List ℕ) → namedRefusal system start ≡ none
+    → question.begunOf system start (trailerIn file) (length file) 0 0 .wrong ≡ false → checkedOf system start file ≡ true
+    → fileRefusal system start file ≡ none
 
 -- `finished-checks`: what finishing writes of a recording that is confirmed is always what the full check accepts
 abbrev pub FinishedChecks : Type 0

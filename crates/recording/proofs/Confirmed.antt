@@ -13,16 +13,15 @@ use borrow.Author.Tests.{eqb-true, eqb-false}
 use Rattle.refusal.proofs.Cases.{by-test}
 use Rattle.system.specs.declared.walk.Walk.{Walk}
 use Rattle.system.specs.Figures.{lineLength, systemOf}
-use Rattle.system.specs.Walk.{mostLines, walkRefusal, freshWalk, freshOf, advancedOf, lineBytes}
-use Rattle.system.proofs.Laws.{Good, accepted-good, good-accepted, fresh-accepted, named-accepted, walk-many-lines}
+use Rattle.system.specs.Walk.{mostLines, walkRefusal, freshWalk, freshOf, lineBytes}
+use Rattle.system.proofs.Laws.{Good, good-accepted, fresh-accepted, named-accepted, walk-many-lines}
 use Rattle.line.specs.Samples.{Samples, Content}
 use Rattle.line.specs.Fit.{Measured}
 use Rattle.system.specs.declared.walk.Judgement.{Judgement}
 use Rattle.words.specs.Bytes.{wordsOf}
-use Rattle.bytewise.specs.Bytes.{judgedBytes}
-use Rattle.bytewise.proofs.Judged.{judged-count}
+use Rattle.bytewise.proofs.Judged.{judged-count, accepted-counted}
 use Rattle.reader.specs.Take.{inTurn}
-use Rattle.reader.proofs.Judged.{accepted, judged-accepted, number-judged}
+use Rattle.reader.proofs.Judged.{accepted}
 use Rattle.reader.proofs.Taken.{measured-turn}
 use Rattle.refusal.proofs.Firsts.{same-number}
 use Rattle.bytewise.proofs.Theorems.{bytes-as-words}
@@ -115,23 +114,6 @@ went-on r bytes z =
     by-test (eqb (r .number) 0) (λ t. eqb-true _ _ t)
     (λ f. absurd (eqb-false _ _ f (ap (λ (s : Run). s .number) (sym (body-ended r bytes (eqb-false _ _ f))) ∙ z)))
 
--- an accepted line: the walk refused none, the line had its bytes, and it was counted
-record Counted (w : Walk) (line : List ℕ) : Type 0 where
-  good : Good w
-  size : length line ≡ lineBytes w
-  one-more : judgedBytes w line .walk .lines ≡ w .lines + 1
-
-accepted-counted : (w : Walk) (line : List ℕ) → judgedBytes w line .number ≡ 0 → Counted w line
-unfolding advancedOf
-accepted-counted w line z =
-    let well = sym (number-judged (length line) (lineBytes w) w (wordsOf line)) ∙ z in
-    let a = accepted (length line) (lineBytes w) w (wordsOf line) well in
-    record {
-      good = accepted-good w (a .walk);
-      size = a .size;
-      one-more = ap (λ (j : Judgement). j .walk .lines) (judged-accepted (length line) (lineBytes w) w (wordsOf line) well);
-    }
-
 -- bytes that are whole lines, for which a walk has room
 record WholeLines (w : Walk) (bytes : List ℕ) : Type 0 where
   lines : List (List ℕ)
@@ -161,7 +143,7 @@ whole-lines (suc k) r (x ∷ bytes) l z =
       all = sym (take-append-drop n (x ∷ bytes)) ∙ ap (λ (more : List ℕ). line ++ more) (others .all);
       each = λ one at.
           ⊎-elim (λ e. ap length e ∙ first .size) (λ there. others .each one there ∙ next-line-bytes r line) (List·Memᴰ·cases-cons at);
-      room = λ h. omega (arith, first .one-more, others .room (omega (arith, first .one-more, first .good .lines)));
+      room = λ h. omega (arith, first .lines, others .room (omega (arith, first .lines, first .good .lines)));
     }
 
 -- a recording tells as many lines as it has

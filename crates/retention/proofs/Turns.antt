@@ -1,6 +1,6 @@
 -- What a sink, a turn and a verb come to, case by case. Assumes nothing.
 use Prim.Native.Nat.{ℕ, _+_, _-_, _%_, _^_, _<_, _≤_}
-use mathlib.Core.Path.{_≡_, sym, ap, subst, _∙_}
+use mathlib.Core.Path.{_≡_, ap, _∙_}
 use mathlib.Core.Bool.{Bool, true, false, not, _&&_, _||_}
 use mathlib.Core.List.{List, []}
 use native.Mathlib.Omega.{arith}
@@ -11,18 +11,20 @@ use borrow.Author.Tests.{lt-ltb, le-ltb, eq-eqb, ne-eqb}
 use Rattle.intake.specs.declared.Filled.{Filled}
 use Rattle.intake.specs.Arrival.{part}
 use Rattle.confirmation.specs.declared.Run.{Run}
+use Rattle.refusal.specs.declared.Refusal.{Refusal}
 use Rattle.index.specs.declared.Asked.{Asked}
-use Rattle.index.specs.Entries.{entryLength}
+use Rattle.index.specs.Asking.{refusalOf}
 use Rattle.finished.specs.declared.Finishing.{Finishing}
 use Rattle.finished.specs.declared.meeting.Meeting.{Meeting}
 use Rattle.finished.specs.Finish.{Turn, roomAfter, finishingClosed}
 use Rattle.finished.specs.Check.{lower, metOf, isTheirs}
 use Rattle.console.specs.declared.Status.{Status}
-use Rattle.console.specs.declared.Status.the-variants.{Done, Unread, Shortened, Unwritten}
+use Rattle.console.specs.declared.Status.the-variants.{Done, Shortened, Unwritten}
 use Rattle.console.specs.Status.{codeOf}
 use Rattle.retention.specs.declared.sink.Sink.{Sink}
 use Rattle.retention.specs.declared.sink.Taken.{Taken}
 use Rattle.retention.specs.declared.carrying.Carried.{Carried}
+use Rattle.retention.specs.declared.pieces.Parts.{Parts}
 use Rattle.retention.specs.Pieces.{filledStatus}
 use Rattle.retention.specs.Turn.{
   Answers,
@@ -43,6 +45,7 @@ use Rattle.retention.specs.Turn.{
   finishedStatus,
   askedStatus,
   foundStatus,
+  noStatus,
   checkedAs,
   checkedStatus,
 }
@@ -229,21 +232,43 @@ module _ (run : Run) (meeting : Meeting) (r : ℕ) where
   unfolding foundStatus
   find-other test e f is = (true, is ∙ (simp (← e, f)))
 
-module _ (c : Carried) (ended : Taken) (answers : Answers) (e : ended ≡ endBy (c .sink) answers) (code : ℕ) (k : code ≡ codeOf (ended .status))
-    (r : ℕ) where
+module _ (run : Run) (meeting : Meeting) (parts : Parts) (code : ℕ) (k : code ≡ codeOf (parts .status)) (r : ℕ) where
+  abbrev No : Type 0
+  No = (written : Bool) × (r ≡ noStatus run meeting parts written)
+
+  pub no-unread : (code ≡ 0 → ⊥) → r ≡ code → No
+  unfolding noStatus
+  no-unread n is = (true, is ∙ (simp (← k, ne-eqb code 0 n)))
+
+  pub no-refused : code ≡ 0 → (refusal : Refusal) → refusal ≡ refusalOf (parts .question) → (refusal .number ≡ 0 → ⊥) → r ≡ 2 → No
+  unfolding noStatus
+  no-refused z refusal e n is = (true, is ∙ (simp (← k, eq-eqb code 0 z, ← e, ne-eqb (refusal .number) 0 n)))
+
+  pub no-found : code ≡ 0 → (refusal : Refusal) → refusal ≡ refusalOf (parts .question) → refusal .number ≡ 0 → (written : Bool)
+      → r ≡ foundStatus run meeting written → No
+  unfolding noStatus
+  no-found z refusal e a written is = (written, is ∙ (simp (← k, eq-eqb code 0 z, ← e, eq-eqb (refusal .number) 0 a)))
+
+module _ (c : Carried) (ended : Taken) (answers : Answers) (e : ended ≡ endBy (c .sink) answers) (parts : Parts) (code : ℕ)
+    (k : code ≡ codeOf (ended .status)) (r : ℕ) where
   abbrev Checked : Type 0
-  Checked = (answers : Answers) × (r ≡ checkedStatus c answers)
+  Checked = (answers : Answers) × (read : Parts) × (r ≡ checkedStatus c read answers)
 
   -- the same answers, with whether what was found could be written
   abbrev saidAs : Bool → Answers
   saidAs written = record { written = written; filled = answers .filled; theirs = answers .theirs }
 
-  by-end : (written : Bool) → r ≡ checkedAs c ended written → Checked
+  by-end : (written : Bool) → r ≡ checkedAs c ended parts written → Checked
   unfolding checkedStatus metBy
-  by-end written is = (saidAs written, is ∙ ap (λ (x : Taken). checkedAs c x written) e)
+  by-end written is = (saidAs written, parts, is ∙ ap (λ (x : Taken). checkedAs c x parts written) e)
 
   pub check-unread : (code ≡ 0 → ⊥) → r ≡ code → Checked
   check-unread n is = by-end true (is ∙ (simp (← k, ne-eqb code 0 n)))
 
-  pub check-found : code ≡ 0 → (written : Bool) → r ≡ foundStatus (c .finishing .run) (ended .sink .meeting) written → Checked
-  check-found z written is = by-end written (is ∙ (simp (← k, eq-eqb code 0 z)))
+  pub check-theirs : code ≡ 0 → (test : Bool) → test ≡ isTheirs (c .finishing .run) (ended .sink .meeting) → test ≡ true → (written : Bool)
+      → r ≡ foundStatus (c .finishing .run) (ended .sink .meeting) written → Checked
+  check-theirs z test t y written is = by-end written (is ∙ (simp (← k, eq-eqb code 0 z, ← t, y)))
+
+  pub check-other : code ≡ 0 → (test : Bool) → test ≡ isTheirs (c .finishing .run) (ended .sink .meeting) → test ≡ false → (written : Bool)
+      → r ≡ noStatus (c .finishing .run) (ended .sink .meeting) parts written → Checked
+  check-other z test t n written is = by-end written (is ∙ (simp (← k, eq-eqb code 0 z, ← t, n)))

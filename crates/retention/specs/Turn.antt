@@ -11,6 +11,7 @@ use Rattle.intake.specs.Arrival.{part}
 use Rattle.confirmation.specs.declared.Run.{Run}
 use Rattle.index.specs.declared.Asked.{Asked}
 use Rattle.index.specs.Entries.{entryLength}
+use Rattle.index.specs.Asking.{refusalOf}
 use Rattle.finished.specs.declared.Finishing.{Finishing}
 use Rattle.finished.specs.declared.meeting.Meeting.{Meeting}
 use Rattle.finished.specs.Finish.{Turn, madeOf, finishingClosed}
@@ -21,6 +22,7 @@ use Rattle.console.specs.Status.{codeOf}
 use Rattle.retention.specs.declared.sink.Sink.{Sink}
 use Rattle.retention.specs.declared.sink.Taken.{Taken}
 use Rattle.retention.specs.declared.carrying.Carried.{Carried}
+use Rattle.retention.specs.declared.pieces.Parts.{Parts}
 use Rattle.retention.specs.Pieces.{filledStatus}
 
 -- ---- where judged lines go
@@ -146,10 +148,18 @@ askedStatus asked written = cond (not (eqb (asked .number) 0)) 2 (cond (not writ
 unfoldable pub foundStatus : Run → Meeting → Bool → ℕ
 foundStatus run meeting written = cond (not written) 2 (cond (isTheirs run meeting) 0 1)
 
--- the same behind the last line, where the rest of the index met so, or could not be read
-abbrev pub checkedAs : Carried → Taken → Bool → ℕ
-checkedAs c ended written =
-    cond (eqb (codeOf (ended .status)) 0) (foundStatus (c .finishing .run) (ended .sink .meeting) written) (codeOf (ended .status))
+-- of a file that is not theirs, whose whole index was read: where that is none, the file is refused
+unfoldable pub noStatus : Run → Meeting → Parts → Bool → ℕ
+noStatus run meeting parts written =
+    cond (not (eqb (codeOf (parts .status)) 0)) (codeOf (parts .status))
+    (cond (not (eqb (refusalOf (parts .question) .number) 0)) 2 (foundStatus run meeting written))
 
-unfoldable pub checkedStatus : Carried → Answers → ℕ
-checkedStatus c answers = checkedAs c (endBy (c .sink) answers) (answers .written)
+-- the same behind the last line, where the rest of the index met so, or could not be read
+abbrev pub checkedAs : Carried → Taken → Parts → Bool → ℕ
+checkedAs c ended parts written =
+    cond (not (eqb (codeOf (ended .status)) 0)) (codeOf (ended .status))
+    (cond (isTheirs (c .finishing .run) (ended .sink .meeting)) (foundStatus (c .finishing .run) (ended .sink .meeting) written)
+    (noStatus (c .finishing .run) (ended .sink .meeting) parts written))
+
+unfoldable pub checkedStatus : Carried → Parts → Answers → ℕ
+checkedStatus c parts answers = checkedAs c (endBy (c .sink) answers) parts (answers .written)

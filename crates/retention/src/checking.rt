@@ -1,16 +1,19 @@
 // `check`: whether all lines of a finished file are accepted and the index is theirs.
 ghost use mathlib.Core.Path.{_≡_};
 ghost use mathlib.Core.Bool.{Bool};
-ghost use Rattle.retention.specs.Turn.{Answers, foundStatus, checkedStatus};
+ghost use Rattle.retention.specs.declared.pieces.Parts.{Parts as PartsRead};
+ghost use Rattle.retention.specs.Turn.{Answers, foundStatus, noStatus, checkedStatus};
 use crate::File;
 use crate::carrying::Carried;
 use crate::carrying::carry;
 use crate::pieces::Parts;
-use crate::pieces::read_parts;
+use crate::pieces::read_end;
+use crate::pieces::read_index;
 use crate::sink::Sink;
 use confirmation::Run;
 use finished::Finishing;
 use finished::Meeting;
+use index::Question;
 use libc::STDOUT_FILENO;
 
 fn print_theirs(finishing: Finishing) -> bool {
@@ -64,9 +67,35 @@ fn tell(finishing: Finishing, meeting: Meeting) -> u32
     1
 }
 
-// What was carried, with the first entry that is left of the index.
-fn end(carried: Carried, name: &[u8]) -> u32
-    ensures { λ r. ⌜ ((answers : Answers) × (r ≡ checkedStatus carried answers)) ⌝ }
+// Says that a file is refused, and answers the exit status.
+fn refuse(name: &[u8], question: Question) -> u32
+    ensures { λ r. ⌜ r ≡ 2 ⌝ }
+{
+    let refusal = question.refusal();
+    console::say_refused_file(b"check", name, refusal.number);
+    2
+}
+
+// What was found of a file that is not theirs, whose whole index was read: where that is none, the file is refused.
+fn tell_no(finishing: Finishing, meeting: Meeting, name: &[u8], parts: Parts) -> u32
+    ensures { λ r. ⌜ ((written : Bool) × (r ≡ noStatus (finishing .run) meeting parts written)) ⌝ }
+{
+    let status = parts.status;
+    status.say_failure(b"check", name);
+    if status.code() != 0 {
+        return status.code();
+    }
+    let question = parts.question;
+    if question.refusal().number != 0 {
+        return refuse(name, question);
+    }
+    tell(finishing, meeting)
+}
+
+// What was carried, with the first entry that is left of the index. What is theirs is refused nothing, so the whole index is looked at for that
+// only where it is not.
+fn end(carried: Carried, file: File, name: &[u8], parts: Parts) -> u32
+    ensures { λ r. ⌜ ((answers : Answers) × (read : PartsRead) × (r ≡ checkedStatus carried read answers)) ⌝ }
 {
     let sink = carried.sink;
     let ended = sink.end();
@@ -76,10 +105,14 @@ fn end(carried: Carried, name: &[u8]) -> u32
     if status.code() != 0 {
         return status.code();
     }
-    tell(carried.finishing, last.meeting)
+    let finishing = carried.finishing;
+    if finished::is_theirs(finishing.run, last.meeting) {
+        return tell(finishing, last.meeting);
+    }
+    tell_no(finishing, last.meeting, name, read_index(file, parts))
 }
 
-// Checks the lines of a file whose parts fit.
+// Checks the lines of a file whose trailer fits.
 fn check_lines(file: File, name: &[u8], parts: Parts) -> u32 {
     let trailer = parts.trailer;
     let sink = Sink::checking(file.number, trailer.offset, 6 * (trailer.entries as u64));
@@ -91,22 +124,20 @@ fn check_lines(file: File, name: &[u8], parts: Parts) -> u32 {
     if status.code() != 0 {
         return status.code();
     }
-    end(carried, name)
+    end(carried, file, name, parts)
 }
 
 // The full check of a finished file, and the exit status: 0 where all lines are accepted and the index is theirs, 1 where not.
 pub fn check(file: File, name: &[u8]) -> u32 {
-    let parts = read_parts(file, 0, 0);
+    let parts = read_end(file, 0, 0);
     let status = parts.status;
     status.say_failure(b"check", name);
     if status.code() != 0 {
         return status.code();
     }
     let question = parts.question;
-    let refusal = question.refusal();
-    if refusal.number != 0 {
-        console::say_refused_file(b"check", name, refusal.number);
-        return 2;
+    if question.wrong | (system::named_refusal(file.system, file.start).number != 0) {
+        return refuse(name, question);
     }
     check_lines(file, name, parts)
 }

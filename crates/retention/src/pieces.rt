@@ -13,7 +13,7 @@ use intake::Filled;
 use std::num::wrapping_add_u64;
 use std::num::wrapping_sub_u64;
 
-// A finished file's trailer, and the question behind its whole index, where both could be read.
+// A finished file's trailer, and the question of its index, where they could be read.
 pub(crate) struct Parts {
     pub(crate) trailer: Trailer,
     pub(crate) question: Question,
@@ -101,27 +101,23 @@ fn feed(part: Part, question: Question) -> Fed {
     feed_by(part, question, &mut buffer)
 }
 
-// Reads a finished file's trailer and index, for lines a to b. Of an index whose trailer does not fit nothing is read.
-fn read_behind(file: File, length: u64, trailer: &[u8], a: u32, b: u32) -> Parts {
-    let told = Trailer::of(trailer);
-    let question = Question::begin(file.system, file.start, trailer, length, a, b);
+// Parts behind the whole index. Of an index whose trailer does not fit nothing is read.
+pub(crate) fn read_index(file: File, parts: Parts) -> Parts {
+    let question = parts.question;
     if question.wrong {
-        return Parts {
-            trailer: told,
-            question,
-            status: Status::Done,
-        };
+        return parts;
     }
+    let trailer = parts.trailer;
     let part = Part {
         file: file.number,
-        end: wrapping_add_u64(told.offset, question.left),
+        end: wrapping_add_u64(trailer.offset, question.left),
         size: question.left,
     };
     let fed = feed(part, question);
     let after = fed.question;
     let status = fed.status;
     Parts {
-        trailer: told,
+        trailer,
         question: after,
         status,
     }
@@ -143,7 +139,11 @@ fn read_trailer(file: File, length: u64, trailer: &mut [u8], a: u32, b: u32) -> 
     if status.code() != 0 {
         return no_parts(file, status);
     }
-    read_behind(file, length, &trailer[0..due], a, b)
+    Parts {
+        trailer: Trailer::of(&trailer[0..due]),
+        question: Question::begin(file.system, file.start, &trailer[0..due], length, a, b),
+        status,
+    }
 }
 
 // The length of a file whose end is there.
@@ -151,14 +151,19 @@ fn length_of(end: i64) -> u64 {
     if end > 0 { end as u64 } else { 0 }
 }
 
-// The parts of a finished file, for lines a to b.
-pub(crate) fn read_parts(file: File, a: u32, b: u32) -> Parts {
+// The parts of a finished file as far as its trailer tells them, for lines a to b.
+pub(crate) fn read_end(file: File, a: u32, b: u32) -> Parts {
     let end = libc::lseek(file.number, 0, libc::SEEK_END);
     if end < 0 {
         return no_parts(file, Status::Unread);
     }
     let mut trailer = [0u8; TRAILER_LENGTH];
     read_trailer(file, length_of(end), &mut trailer, a, b)
+}
+
+// The parts of a finished file, for lines a to b.
+pub(crate) fn read_parts(file: File, a: u32, b: u32) -> Parts {
+    read_index(file, read_end(file, a, b))
 }
 
 // Copies a part of a file.

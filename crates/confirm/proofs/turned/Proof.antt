@@ -1,20 +1,14 @@
 -- `confirm::turned` meets its contract, in each case of what was told. Assumes nothing.
 use borrow.Author.Needs.{needs}
-use Prim.Native.Nat.{ℕ, _≤_}
-use mathlib.Core.Path.{_≡_, sym, ap, subst, _∙_}
+use mathlib.Core.Path.{sym, ap, _∙_}
 use mathlib.Core.Bool.{true, false}
 use native.Mathlib.Omega.{arith}
 use Rattle.intake.specs.declared.Told.{Told}
-use Rattle.intake.specs.declared.Told.the-variants.{Bytes}
-use Rattle.intake.specs.Arrival.{WithinRoom}
+use Rattle.console.proofs.Fills.{room-for}
 use Rattle.confirmation.specs.declared.Run.{Run}
 use Rattle.confirm.specs.Turn.{turnOf}
 use Rattle.confirm.proofs.turned.Statement.{statement}
 use Rattle.confirm.proofs.turned.Tie as tie
-
--- bytes that were told of have room
-room-for : (told : Told) (count room : ℕ) → told ≡ Bytes count → WithinRoom told room → count ≤ room
-room-for told count room e w = subst (λ (t : Told). WithinRoom t room) e w .1
 
 enum-told : tie.Need-enum-told
 enum-told c = search needs

@@ -1,5 +1,4 @@
 -- `retention::pieces::filled_status` meets its contract: test by test. Assumes nothing.
-use borrow.Author.Needs.{needs}
 use Prim.Native.Nat.{ℕ, _<_, _≤_}
 use mathlib.Core.Path.{_≡_}
 use mathlib.Core.Bool.{true, false}

@@ -1,22 +1,16 @@
 -- `retention::carrying::Carried::turned` meets its contract, in each case of what was told. Assumes nothing.
 use borrow.Author.Needs.{needs}
-use Prim.Native.Nat.{ℕ, _≤_}
-use mathlib.Core.Path.{_≡_, sym, ap, subst, _∙_}
+use mathlib.Core.Path.{sym, ap, _∙_}
 use mathlib.Core.Bool.{true}
 use native.Mathlib.Omega.{arith}
 use lib.ListN.{length}
 use Rattle.intake.specs.declared.Told.{Told}
-use Rattle.intake.specs.declared.Told.the-variants.{Bytes}
-use Rattle.intake.specs.Arrival.{WithinRoom}
+use Rattle.console.proofs.Fills.{room-for}
 use Rattle.retention.specs.declared.carrying.Carried.{Carried}
 use Rattle.retention.specs.Turn.{turnOf}
 use Rattle.retention.proofs.Turns.{wroteAs}
 use Rattle.retention.proofs.carrying.Carried.turned.Statement.{statement}
 use Rattle.retention.proofs.carrying.Carried.turned.Tie as tie
-
--- bytes that were told of have room
-room-for : (told : Told) (count room : ℕ) → told ≡ Bytes count → WithinRoom told room → count ≤ room
-room-for told count room e w = subst (λ (t : Told). WithinRoom t room) e w .1
 
 enum-told : tie.Need-enum-told
 enum-told c = search needs
