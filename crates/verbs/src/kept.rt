@@ -121,6 +121,16 @@ fn no_number_of(first: usize, count: usize) -> usize {
     0
 }
 
+// The numbers from an argument on.
+fn numbers_from(first: usize) -> Numbers {
+    Numbers {
+        system: number(first),
+        start: number(wrapping_add_usize(first, 1)),
+        a: number(wrapping_add_usize(first, 2)),
+        b: number(wrapping_add_usize(first, 3)),
+    }
+}
+
 // Runs a verb on a finished file and so many numbers.
 pub(crate) fn run(verb: &[u8], count: usize) -> u32 {
     let first = names_from(verb);
@@ -139,13 +149,7 @@ pub(crate) fn run(verb: &[u8], count: usize) -> u32 {
     if bad != 0 {
         return wrong::no_number(verb, bad);
     }
-    let numbers = Numbers {
-        system: number(behind),
-        start: number(wrapping_add_usize(behind, 1)),
-        a: number(wrapping_add_usize(behind, 2)),
-        b: number(wrapping_add_usize(behind, 3)),
-    };
-    run_argument(verb, first, numbers)
+    run_argument(verb, first, numbers_from(behind))
 }
 
 // Writes the recording that a finished file was made of.
