@@ -10,6 +10,7 @@ line tells how many runs passed and how many failed.
 import errno
 import os
 import re
+import select
 import shlex
 import shutil
 import signal
@@ -51,6 +52,8 @@ from independent.stream import LongRun, write_all
 
 REPOSITORY = Path(__file__).resolve().parent.parent
 TIMEOUT_SECONDS = 120
+# A terminal to which nothing has come for so long has had everything of a process that ended.
+QUIET_SECONDS = 0.1
 FAMILIES = (
     *command_cases.FAMILIES,
     *folder_cases.FAMILIES,
@@ -122,20 +125,22 @@ def to_terminal(case, words, stdout, **standard):
     near, far = os.openpty()
     tty.setraw(far)
     with started(case.script, words, stdin=subprocess.DEVNULL, stdout=far, **standard) as process:
-        os.close(far)
-        stdout.write(received(near))
-        return process.wait()
+        stdout.write(received(near, process))
+        status = process.wait()
+    os.close(near)
+    os.close(far)
+    return status
 
 
-def received(descriptor):
+def received(descriptor, process):
+    """What a process gives to a terminal that stays open: at its last user's end one may lose what is on its way."""
     data = b""
-    try:
-        while piece := os.read(descriptor, 65_536):
-            data += piece
-    except OSError:
-        pass  # The terminal's last user has gone.
-    os.close(descriptor)
-    return data
+    while True:
+        has_ended = process.poll() is not None
+        if select.select([descriptor], [], [], QUIET_SECONDS)[0]:
+            data += os.read(descriptor, 65_536)
+        elif has_ended:
+            return data
 
 
 HANDED = {
