@@ -2,9 +2,9 @@
 
 Run: python3 -m examples.captions SYSTEM FRAMES >PACKETS
 Each frame has two ancillary packets, made as a caption inserter makes them: the
-picture's format (41h 05h) between EAV and SAV of line 11, and a caption
-distribution packet (61h 01h) in the active part of line 13. The captions are
-two letters a frame, for the first field.
+picture's format (41h 05h) between EAV and SAV of line 7, and a caption
+distribution packet (61h 01h) in the active part of line 9, which has V = 1
+wherever V falls. The captions are two letters a frame, for the first field.
 """
 
 import sys
@@ -12,7 +12,7 @@ import sys
 from independent.entries import line_entries
 from independent.packets import header_word, packet
 
-FORMAT_LINE, CAPTION_LINE = 11, 13
+FORMAT_LINE, CAPTION_LINE = 7, 9
 TEXT = b"The programme comes back whole. "
 
 # A picture of 4:3 that fills the frame.

@@ -4,9 +4,9 @@ from itertools import chain, cycle, product, starmap
 
 from independent import judge, protocol
 from independent.due_cases import any_dues
-from independent.edges import ANY_SYSTEMS, EDGE_COUNTS, EDGE_LINES, EDGE_NUMBERS, EDGE_SAMPLES
-from independent.edges import EDGE_SUMS, EDGE_WORDS, HIGHEST, HIGHEST_WIDE, MOSTS, SYSTEMS
-from independent.edges import WRONG_SYSTEMS
+from independent.edges import ANY_FALLS, ANY_SYSTEMS, EDGE_COUNTS, EDGE_LINES, EDGE_NUMBERS
+from independent.edges import EDGE_RECORDS, EDGE_SAMPLES, EDGE_SUMS, EDGE_WORDS, FALLS, HIGHEST
+from independent.edges import HIGHEST_WIDE, MOSTS, SYSTEMS, WRONG_SYSTEMS
 from independent.judge import CLEAN_REPORT, CODE_BITS, LINES_LIMIT, NO_READY, PacketWords
 from independent.judge import Report, Walk, line_after
 from independent.material import Source, changed, chosen_lines, inverted, line_for
@@ -63,9 +63,9 @@ def every_line_number(source):
 
 
 def any_walks(source):
-    """Walks that are taken, and with any of system, line and counts wrong."""
-    for system, line, counts in product(ANY_SYSTEMS, (*EDGE_LINES, 20, 23), EDGE_COUNTS):
-        yield Walk(system, line, *counts)
+    """Walks that are taken, and with any of system, line and counts wrong, after either V."""
+    for system, line, counts in product(ANY_SYSTEMS, (*EDGE_LINES, 11, 20, 23), EDGE_COUNTS):
+        yield Walk(system, line, *counts, source.random.choice(EDGE_RECORDS))
     for system, line in of_both(line_numbers):
         yield source.walk(system, line)
         yield Walk(system, line, 0, 0)
@@ -101,7 +101,9 @@ def flags_of_lines(source):
         for system in SYSTEMS:
             yield protocol.SYSTEM_FLAGS, (system, line)
             yield protocol.OWN_FRESH, (system, line)
-            yield protocol.DUE_OF, (system, line)
+            fall = source.random.choice(ANY_FALLS)
+            yield protocol.DUE_OF, (system, line, fall)
+            yield protocol.V_WRITTEN, (system, line, fall)
 
 
 def figures(source):
@@ -129,8 +131,8 @@ def walks(source):
         given, due = choice(LENGTHS), choice(LENGTHS)
         yield protocol.STANDING, (walk, Wide(given), Wide(due))
         yield protocol.STANDING, (walk, Wide(due), Wide(due))
-        yield protocol.TAKES_ROW, (walk,)
-        yield protocol.ENDS_FRAME, (walk,)
+        yield protocol.TAKES_ROW, (walk, choice(ANY_FALLS))
+        yield protocol.ENDS_FRAME, (walk, choice(ANY_FALLS))
         yield protocol.LINE_BYTES, (walk,)
 
 
@@ -147,7 +149,8 @@ def full_counts(source):
     one_code = Report(judge.REPAIRED, 8, judge.CLEAN, 0), Report(judge.CLEAN, 0, judge.REPAIRED, 2)
     reports = CLEAN_REPORT, *one_code, Report(judge.REPAIRED, 2, judge.REPAIRED, 8)
     for due, line, counts in product(list(any_dues(source)), EDGE_LINES, FULL_COUNTS):
-        walk = Walk(source.random.choice(ANY_SYSTEMS), line, *counts)
+        system, record = source.random.choice(ANY_SYSTEMS), source.random.choice(EDGE_RECORDS)
+        walk = Walk(system, line, *counts, record)
         yield protocol.MOVED, (walk, due, source.random.choice(reports))
         packets = source.random.choice(PACKET_COUNTS)
         yield protocol.ACCEPTED, (walk, due, source.random.choice(reports), packets)
@@ -158,7 +161,7 @@ def walk_dues(source):
     for system, line in product(SYSTEMS, every_line_number(source)):
         own = judge.FOURTH_WORDS[judge.due_flags(judge.due_of(system, line), 1)]
         for fourth in (own, source.random.choice(FOURTHS), source.random.randrange(65_536)):
-            yield protocol.WALK_DUE, (Walk(system, line, *source.counts()), fourth)
+            yield protocol.WALK_DUE, (source.any_walk(system, line), fourth)
     for (system, line), fourth in product(chosen_lines(), (*FOURTHS, *range(0, 65_536, 257))):
         yield protocol.WALK_DUE, (source.walk(system, line), fourth)
 
@@ -166,6 +169,7 @@ def walk_dues(source):
 def named_numbers(source):
     for system, line in product(ANY_SYSTEMS, every_line_number(source)):
         yield protocol.NAMED, (system, line)
+        yield protocol.WRITTEN_REFUSAL, (system, line, source.random.choice(ANY_FALLS))
 
 
 def standing_lengths(source):
@@ -197,9 +201,9 @@ def run_at(walk):
     return Run(walk.system % 65_536, walk.line % 65_536, walk, *judge.ACCEPTED)
 
 
-def tape_at(source, walk):
+def tape_at(source, walk, fall):
     """A tape that has come to a walk."""
-    return Tape(walk, source.random.choice(MOSTS), *judge.ACCEPTED)
+    return Tape(walk, source.random.choice(MOSTS), fall, *judge.ACCEPTED)
 
 
 def judge_words(source, walk, words):
@@ -407,10 +411,11 @@ def row_faults(source):
             yield protocol.PACK, (one, source.junk_bytes(ROW_BYTES))
 
 
-def recordings_in(source, walk, row, line, ready=NO_READY):
+def recordings_in(source, walk, row, line):
     """A row offered at a walk and on a tape, with these bytes for its line."""
-    yield protocol.RECORD, (walk, row, *ready, line)
-    yield protocol.TAPE_NEXT, (tape_at(source, walk), row, *ready, line)
+    fall = source.random.choice(FALLS)
+    yield protocol.RECORD, (walk, fall, row, *NO_READY, line)
+    yield protocol.TAPE_NEXT, (tape_at(source, walk, fall), row, *NO_READY, line)
 
 
 def recordings(source, walk, row):

@@ -25,7 +25,7 @@ def correct_expecting(word, fvh):
 
 
 def line_flags(system, line):
-    return judge.due_v(system, line), judge.due_f(system, line)
+    return judge.table_v(system, line), judge.due_f(system, line)
 
 
 def flags(line):
@@ -46,6 +46,11 @@ def figures(system):
 def named_refusal(system, line):
     # "What refuses the numbers of a system and of a line: 1, 2."
     return judge.line_number_refusal(system, line) or ACCEPTED
+
+
+def written_refusal(system, line, fall):
+    # "outside 10 to 20 is refusal 2", as a line number outside is
+    return judge.numbers_refusal(system, line, fall) or ACCEPTED
 
 
 def walk_refusal(walk):

@@ -46,20 +46,21 @@ def shared_calls():
         (526, 0, (1, 0)),
     ):  # fmt: skip
         yield f"named {system}, {line}", calls.named_refusal(system, line), refusal
-    last, due = Walk(525, 525, 7, 3), Due(525, 1, 0, 512, 64)
+    last, due = Walk(525, 525, 7, 3, 9), Due(525, 1, 0, 512, 64)
     accepted = calls.accepted(last, due, CLEAN_REPORT, PacketWords(14, 7))
-    yield "accepted", accepted, (0, 0, CLEAN_REPORT, (525, 1, 8, 3), (14, 7))
-    yield "refused", judge.refused(last, 9, 3), (9, 3, (0, 0, 0, 0), last, (0, 0))
+    yield "accepted", accepted, (0, 0, CLEAN_REPORT, (525, 1, 8, 3, 1), (14, 7))
+    kept = 525, 525, 7, 3, 9
+    yield "refused", judge.refused(last, 9, 3), (9, 3, (0, 0, 0, 0), kept, (0, 0))
 
 
 def moved_walks():
     due, other = Due(525, 1, 0, 512, 64), Due(7, 0, 1, 3, 4)
     last, full = Walk(525, 525, 7, 3), Walk(0, 625, 2**32 - 1, 2**32 - 1)
-    yield "moved", calls.moved(last, due, BOTH_REPAIRED), (525, 1, 8, 5)
-    yield "moved as another", calls.moved(last, other, CLEAN_REPORT), (525, 526, 8, 3)
-    yield "moved over 32 bits", calls.moved(full, other, BOTH_REPAIRED), (0, 1, 0, 1)
-    yield "moved from none", calls.moved(Walk(0, 0, 0, 0), due, CLEAN_REPORT), (0, 1, 1, 0)
-    moved = Walk(625, 24, 10_000_001, 2)
+    yield "moved", calls.moved(last, due, BOTH_REPAIRED), (525, 1, 8, 5, 1)
+    yield "moved as another", calls.moved(last, other, CLEAN_REPORT), (525, 526, 8, 3, 0)
+    yield "moved over 32 bits", calls.moved(full, other, BOTH_REPAIRED), (0, 1, 0, 1, 0)
+    yield "moved from none", calls.moved(Walk(0, 0, 0, 0), due, CLEAN_REPORT), (0, 1, 1, 0, 1)
+    moved = Walk(625, 24, 10_000_001, 2, 0)
     yield "moved though counted out", calls.moved(COUNTED_OUT, other, BOTH_REPAIRED), moved
     for walk, given, length_due, refusal in (
         (last, 1716, 1716, (0, 0)),
@@ -168,17 +169,17 @@ def row_calls():
 
 def programme_calls():
     line = record(625, 23, BLACK_ROW)[0][4:]
-    walk, after = Walk(625, 23, 0, 0), Walk(625, 24, 1, 0)
-    recorded = tapes.record(walk, BLACK_ROW, *NO_READY, bytes(3456))
+    walk, after = Walk(625, 23, 0, 0, 0), Walk(625, 24, 1, 0, 1)
+    recorded = tapes.record(walk, 7, BLACK_ROW, *NO_READY, bytes(3456))
     yield "recorded", recorded, (0, 0, CLEAN_REPORT, after, NO_PACKETS, line)
     extracted = tapes.extract(walk, line, bytes(1920))
     yield "extracted", extracted, (0, 0, CLEAN_REPORT, after, NO_PACKETS, BLACK_ROW)
     blank = Walk(625, 22, 0, 0)
-    fill = tapes.record(blank, b"", *NO_READY, bytes(3456))[-1]
+    fill = tapes.record(blank, 7, b"", *NO_READY, bytes(3456))[-1]
     yield "a row for fill", tapes.extract(blank, fill, b"\7" * 1920)[-1], b"\7" * 1920
-    yield "line short", tapes.record(walk, b"", *NO_READY, b"")[:2], (3, 0)
-    yield "row short", tapes.record(walk, b"", *NO_READY, bytes(3456))[:2], (3, 1)
-    yield "counted out", tapes.record(COUNTED_OUT, b"", *NO_READY, b"")[:2], (4, 0)
+    yield "line short", tapes.record(walk, 7, b"", *NO_READY, b"")[:2], (3, 0)
+    yield "row short", tapes.record(walk, 7, b"", *NO_READY, bytes(3456))[:2], (3, 1)
+    yield "counted out", tapes.record(COUNTED_OUT, 7, b"", *NO_READY, b"")[:2], (4, 0)
     no_room = 3, 1, CLEAN_REPORT, walk, NO_PACKETS, b""
     yield "no room", tapes.extract(walk, line, b""), no_room
     yield "a word before no room", tapes.extract(walk, bytes(3456), b"")[:2], (6, 0)
@@ -186,7 +187,8 @@ def programme_calls():
         (Walk(625, 22, 0, 0), (0, 0)), (Walk(625, 22, 1, 0), (0, 1)), (Walk(625, 1, 9, 0), (0, 0)),
         (Walk(625, 23, 1, 0), (1, 0)), (Walk(0, 20, 1, 0), (0, 1)), (Walk(525, 20, 1, 0), (1, 0)),
     ):  # fmt: skip
-        yield f"row at {walk}", (tapes.takes_row(walk), tapes.ends_frame(walk)), answers
+        got = tapes.takes_row(walk, 20), tapes.ends_frame(walk, 20)
+        yield f"row at {walk}", got, answers
 
 
 def pieces():
@@ -207,9 +209,9 @@ def pieces():
 def runs():
     recording = record(625, 22, BLACK_ROW * 2)[0]
     run = recordings.begin(recording)
-    yield "begun", run, (625, 22, (625, 22, 0, 0), 0, 0)
-    yield "no header", recordings.begin(b"\x71\2\1"), (0, 0, (0, 0, 0, 0), 1, 0)
-    after = Run(625, 22, Walk(625, 24, 2, 0), 0, 0)
+    yield "begun", run, (625, 22, (625, 22, 0, 0, 0), 0, 0)
+    yield "no header", recordings.begin(b"\x71\2\1"), (0, 0, (0, 0, 0, 0, 0), 1, 0)
+    after = Run(625, 22, Walk(625, 24, 2, 0, 1), 0, 0)
     yield "followed", recordings.follow(run, recording[4:-1]), (after, 2 * 3456)
     yield "closed", recordings.close(after, b"\0"), after._replace(number=3)
     yield "closed with none", recordings.close(after, b""), after
@@ -233,7 +235,7 @@ def steps():
     blank, line = parts(TWO_LINES[4:], 3456)
     second = Run(625, 22, Walk(625, 23, 1, 0), 0, 0)
     yield "blank line", tapes.extract_next(run, blank, kept), (second, 0, kept)
-    third = second._replace(walk=Walk(625, 24, 2, 0))
+    third = second._replace(walk=Walk(625, 24, 2, 0, 1))
     yield "line with a row", tapes.extract_next(second, line, kept), (third, 1, BLACK_ROW)
     ended = second._replace(number=9, place=3)
     yield "extracting has ended", tapes.extract_next(ended, line, kept), (ended, 0, kept)
@@ -248,23 +250,23 @@ def steps():
 
 def tape_calls():
     blank, line = parts(TWO_LINES[4:], 3456)
-    tape = tapes.begin_tape(625, 22, 625)
-    yield "begun tape", tape, ((625, 22, 0, 0), 625, 0, 0)
-    yield "no tape", tapes.begin_tape(525, 526, 7), ((0, 0, 0, 0), 7, 2, 0)
+    tape = tapes.begin_tape(625, 22, 625, 7)
+    yield "begun tape", tape, ((625, 22, 0, 0, 0), 625, 7, 0, 0)
+    yield "no tape", tapes.begin_tape(525, 526, 7, 10), ((0, 0, 0, 0, 0), 7, 10, 2, 0)
     second = tape._replace(walk=Walk(625, 23, 1, 0))
     yield "fill taped", tapes.tape_next(tape, b"", *NO_READY, bytes(3456)), (second, blank)
-    third = tape._replace(walk=Walk(625, 24, 2, 0))
+    third = tape._replace(walk=Walk(625, 24, 2, 0, 1))
     yield "row taped", tapes.tape_next(second, BLACK_ROW, *NO_READY, bytes(3456)), (third, line)
     refused = second._replace(number=3, place=1)
     got = tapes.tape_next(second, b"", *NO_READY, bytes(3456))
     yield "row refused", got, (refused, bytes(3456))
     got = tapes.tape_next(refused, BLACK_ROW, *NO_READY, b"\7")
     yield "tape has ended", got, (refused, b"\7")
-    full = Tape(Walk(625, 1, 625, 3), 1249, 5, 9)
+    full = Tape(Walk(625, 1, 625, 3, 1), 1249, 7, 5, 9)
     yield "turns", [tapes.turns(full), tapes.turns(full._replace(most=1250))], [1, 0]
-    yield "turned", tapes.turned(full), ((625, 1, 0, 0), 1249, 5, 9)
+    yield "turned", tapes.turned(full), ((625, 1, 0, 0, 0), 1249, 7, 5, 9)
     no_line = full._replace(walk=COUNTED_OUT._replace(line=0))
-    yield "turned to none", tapes.turned(no_line)[0], (0,) * 4
+    yield "turned to none", tapes.turned(no_line)[0], (0,) * 5
     for walk, number, ends in (
         (Walk(625, 624, 1, 0), 0, 1),
         (Walk(625, 624, 1, 0), 3, 0),
@@ -275,7 +277,7 @@ def tape_calls():
         (Walk(625, 624, 10_000_000, 0), 0, 0),
         (Walk(0, 624, 1, 0), 0, 0),
     ):
-        yield f"end of {walk}, {number}", tapes.tape_ends(Tape(walk, 0, number, 0)), ends
+        yield f"end of {walk}, {number}", tapes.tape_ends(Tape(walk, 0, 7, number, 0)), ends
 
 
 def arrivals():

@@ -27,7 +27,7 @@ from independent.command_cases import (
 from independent.edges import HIGHEST_WIDE, SYSTEMS
 from independent.entries import entry_bytes, head_bytes, line_entries
 from independent.folder_cases import LONG_NAME, ODD_NAMES, consecutive, into, refused
-from independent.judge import line_after
+from independent.judge import TABLE_FALL, line_after
 from independent.material import Source, changed
 from independent.packets import LEAST_WORDS
 from independent.protocol import Wide
@@ -57,8 +57,8 @@ def taped(system, start, data, packets, way=BY_SCRIPT):
     return case_of(words, data, {BESIDE: packets}, way)
 
 
-def due_on(system, start, ordinal):
-    return judge.due_of(system, line_after(system, start, ordinal))
+def due_on(system, start, ordinal, fall=TABLE_FALL):
+    return judge.due_of(system, line_after(system, start, ordinal), fall)
 
 
 def to_next_row(system, start):
@@ -76,9 +76,9 @@ def caption(source, ordinal, space=0):
     return entry_bytes(ordinal, space, source.packets(source.random.randrange(LEAST_WORDS, 40)))
 
 
-def captions_on(source, system, start, ordinals):
+def captions_on(source, system, start, ordinals, fall=TABLE_FALL):
     """A packets file for some lines of a programme, of whose spaces some have no packets."""
-    lines = ((n, source.ready(due_on(system, start, n))) for n in ordinals)
+    lines = ((n, source.ready(due_on(system, start, n, fall))) for n in ordinals)
     return b"".join(line_entries(*line) for line in lines)
 
 

@@ -2,13 +2,14 @@
 
 from itertools import product
 
-from independent import call_cases, due_cases, finishing_cases, head_cases, index_cases, judge
-from independent import packet_cases, ready_cases, step_cases
+from independent import call_cases, due_cases, fall_cases, finishing_cases, head_cases, index_cases
+from independent import judge, packet_cases, ready_cases, step_cases
 from independent.call_cases import readings
-from independent.edges import ALL_PLACES, ANY_SYSTEMS, EDGE_COUNTS, EDGE_LINES, EDGE_PLACES
-from independent.edges import EDGE_SAMPLES, EDGE_WORDS, HIGHEST, LISTED_COUNTS, LISTED_LENGTHS
-from independent.edges import LISTED_LINES, LISTED_SAMPLES, LISTED_SERIAL, SYSTEMS, WRONG_SYSTEMS
-from independent.judge import NO_READY, Walk, fourth_offsets, line_after, samples_of
+from independent.edges import ALL_PLACES, ANY_FALLS, ANY_SYSTEMS, EDGE_COUNTS, EDGE_LINES
+from independent.edges import EDGE_PLACES, EDGE_RECORDS, EDGE_SAMPLES, EDGE_WORDS, HIGHEST
+from independent.edges import LISTED_COUNTS, LISTED_LENGTHS, LISTED_LINES, LISTED_SAMPLES
+from independent.edges import LISTED_SERIAL, SYSTEMS, WRONG_SYSTEMS
+from independent.judge import NO_READY, TABLE_FALL, Walk, fourth_offsets, line_after, samples_of
 from independent.material import Source, changed, chosen_lines, edge_offsets, inverted, line_for
 from independent.material import line_numbers, of_both, plain_and_blank_line, slice_lengths
 from independent.material import stretched, turning_lines
@@ -52,9 +53,9 @@ def bytewise(walk, data):
     return CAPTURE_JUDGE, (*walk, data)
 
 
-def write(system, line, samples, words):
+def write(system, line, samples, words, fall=TABLE_FALL):
     """Samples to be written, and no packets."""
-    return WRITE, (system, line, *samples, *NO_READY, words)
+    return WRITE, (system, line, fall, *samples, *NO_READY, words)
 
 
 def every_word(source):
@@ -148,7 +149,7 @@ def every_line(source):
         samples = samples_of(source.picture())
         before = source.junk(judge.SYSTEMS[system].words)
         yield write(system, line, samples, before)
-        words = judge.write(system, line, *samples, *NO_READY, before)[2]
+        words = judge.write(system, line, TABLE_FALL, *samples, *NO_READY, before)[2]
         yield from readings(source, source.walk(system, line), words)
 
 
@@ -292,12 +293,13 @@ def mixed_refusals(source):
         words = stretched(words, len(words) + choice((0, 0, 0, 1, -1)))
         y, cb, cr = source.junk_buffers()
         buffers = y[choice((0, 0, 1)) :], cb[choice((0, 0, 1)) :], cr[choice((0, 0, 1)) :]
-        walk = Walk(system, line, *counts)
+        walk = Walk(system, line, *counts, choice(EDGE_RECORDS))
         yield JUDGE, (walk, words)
         yield TAKE, (walk, words, *buffers)
         yield ACTIVE, (walk, words)
         yield bytewise(walk, pack_slice(words))
-        yield write(system, line, buffers, source.junk(len(words)))
+        fall = choice((TABLE_FALL, choice(ANY_FALLS)))
+        yield write(system, line, buffers, source.junk(len(words)), fall)
 
 
 def written_samples(source):
@@ -455,6 +457,7 @@ FAMILIES = (
     *head_cases.FAMILIES,
     *index_cases.FAMILIES,
     *finishing_cases.FAMILIES,
+    *fall_cases.FAMILIES,
 )
 
 

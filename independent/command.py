@@ -30,6 +30,7 @@ from independent.answers import (
     why_not_beside,
 )
 from independent.entries import FIRST_ORDINAL, NotTaken, line_entries
+from independent.judge import TABLE_FALL
 from independent.packets import each_packet, header_values
 from independent.programme import LAST_NUMBER, Refused
 from independent.recordings import (
@@ -44,7 +45,7 @@ from independent.recordings import (
     told,
 )
 from independent.retention import RETAINERS, retention_answer
-from independent.tapes import frame_rows, piece_lines
+from independent.tapes import NEVER_FULL, frame_rows, piece_lines
 from independent.totals import HOUR_PARTS, hours, no_totals, total_lines, with_read, with_unread
 from independent.words import (
     BAD_CHECKSUM,
@@ -55,6 +56,7 @@ from independent.words import (
     NOT_A_SAMPLE,
     NO_ENTRY,
     NO_FILL,
+    NO_LINE,
     OVER_A_WORD,
     PAST_THE_SPACE,
     RESERVED,
@@ -68,7 +70,7 @@ USES = {
         "                scramble | descramble | help .."
     ),
     "confirm": "confirm [FILE | FOLDER]..",
-    "record": "record [--into FOLDER [--frames N]] [--packets FILE] SYSTEM START",
+    "record": "record [--into FOLDER [--frames N]] [--packets FILE] [--fall LINE] SYSTEM START",
     "extract": "extract [--packets FILE] [FILE | FOLDER]",
     "packets": "packets [FILE | FOLDER]",
     "finish": "finish [RECORDING] FINISHED",
@@ -94,6 +96,11 @@ AWAITED = {
 
 RECORD_TEXTS = {
     **HEADER_TEXTS,
+    NO_LINE: (
+        "the start line is not one of the system, or --fall of 525 is not {} to {}".format(
+            *judge.SYSTEMS[525].falls[0]
+        )
+    ),
     WRONG_LENGTH: "the last row is short",
     WRONG_COUNTS: (
         f"{judge.LINES_LIMIT} lines are written, and --into FOLDER would go on in a next file"
@@ -115,7 +122,6 @@ SERIAL_TEXTS = {
     OVER_A_WORD: f"it is over {LAST_WORD}",
     WRONG_LENGTH: "half a word is left",
 }
-FRAME_ROWS_TEXT = f"a frame of 525 has {frame_rows(525)} rows, one of 625 has {frame_rows(625)}"
 
 RECORDINGS = {f"{number:04}.rec": number for number in range(1, LAST_NUMBER + 1)}
 
@@ -135,7 +141,7 @@ class HelpAsked(Exception):
 
 # The options that take a value, and how many other arguments a verb takes at least and at most.
 OPTIONS = {
-    "record": {"--into": str, "--frames": number_of, "--packets": str},
+    "record": {"--into": str, "--frames": number_of, "--packets": str, "--fall": number_of},
     "extract": {"--packets": str},
 }
 PLACES = {
@@ -468,6 +474,17 @@ def read_answer(verb, values, names, data, files):
     return reader.answer()
 
 
+def fall_line(values):
+    return values.get("--fall", TABLE_FALL)
+
+
+def frame_rows_text(system, fall):
+    """How many rows frames have, those of the system recorded by its fall line."""
+    falls = {525: TABLE_FALL, 625: TABLE_FALL, system: fall}
+    of_525, of_625 = (frame_rows(each, fall=falls[each]) for each in (525, 625))
+    return f"a frame of 525 has {of_525} rows, one of 625 has {of_625}"
+
+
 def say_how_it_ends(report, pieces, stopped, values):
     """Why not all rows and packets were taken, or that the last frame is not whole."""
     if isinstance(stopped, Refused):
@@ -479,8 +496,9 @@ def say_how_it_ends(report, pieces, stopped, values):
         report.say(FAILED, f"{shown(values['--into'])} {NO_MORE_NUMBERS}")
     elif line_count(pieces[0]) and awaited_line(pieces[-1]) != 1:
         line, system = awaited_line(pieces[-1]), header_of(pieces[-1])[0]
-        awaited = f"line {line} of {system} is awaited ({FRAME_ROWS_TEXT})"
-        report.say(TAKEN, f"the last frame is not whole: {awaited}")
+        awaited = f"line {line} of {system} is awaited"
+        rows = frame_rows_text(system, fall_line(values))
+        report.say(TAKEN, f"the last frame is not whole: {awaited} ({rows})")
 
 
 def why_not_into(files, folder):
@@ -508,14 +526,15 @@ def record_into(report, values, system, start, data, packets):
     if why_not:
         report.say(FAILED, why_not)
         return
-    most = piece_lines(system, values.get("--frames"))
-    pieces, stopped = programme.record_pieces(system, start, data, most, packets)
+    most, fall = piece_lines(system, values.get("--frames")), fall_line(values)
+    pieces, stopped = programme.record_pieces(system, start, data, most, packets, fall)
     report.files = with_pieces(report.files, folder, pieces)
     say_how_it_ends(report, pieces, stopped, values)
 
 
-def record_out(report, values, system, start, data, packets=b""):
-    pieces, stopped = programme.record_pieces(system, start, data, packets=packets)
+def record_out(report, values, system, start, data, packets):
+    most, fall = NEVER_FULL, fall_line(values)
+    pieces, stopped = programme.record_pieces(system, start, data, most, packets, fall)
     report.output = b"".join(pieces)
     say_how_it_ends(report, pieces, stopped, values)
 
@@ -533,13 +552,23 @@ def packets_for(report, values):
     return None
 
 
+def numbers_refused(system, start, fall):
+    """What is said of numbers by which nothing is recorded, or None."""
+    refusal = judge.numbers_refusal(system, start, fall)
+    if not refusal:
+        return None
+    number, place = refusal
+    return refused((number, 0, place), RECORD_TEXTS)
+
+
 def record_answer(values, words, data, files):
     system, start = map(number_of, words)
     check_names(values)
     report = Report("record", files)
     # A system or line that there is not is told before any file or folder is looked at.
-    if judge.line_number_refusal(system, start):
-        record_out(report, values, system, start, data)
+    said = numbers_refused(system, start, fall_line(values))
+    if said:
+        report.say(STOPPED, said)
         return report.answer()
     packets = packets_for(report, values)
     if packets is not None:

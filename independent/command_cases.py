@@ -8,7 +8,7 @@ from typing import NamedTuple
 from independent import command, judge, programme
 from independent.command import FAILED, Answer
 from independent.edges import EDGE_SAMPLES, SYSTEMS
-from independent.judge import fourth_offsets, line_after
+from independent.judge import TABLE_FALL, fourth_offsets, line_after
 from independent.material import Source, changed, edge_offsets, inverted, line_numbers
 from independent.material import plain_and_blank_line, turning_lines
 from independent.protocol import pack_slice
@@ -468,7 +468,7 @@ def before_the_end(words, data):
         return b""
     if words[0] != "record":
         return command.answer(words, data).output
-    recorder = programme.Recorder(begin_tape(*map(int, words[1:]), NEVER_FULL))
+    recorder = programme.Recorder(begin_tape(*map(int, words[1:]), NEVER_FULL, TABLE_FALL))
     recorder.put_rows(data)
     return bytes(recorder.pieces[0])
 

@@ -351,7 +351,10 @@ def recorded_into():
     held = {"0007.rec": b""}
     said = text("record: . holds recordings already: name another folder")
     yield "held here", answer(words, BLACK_ROW, held), Answer(b"", said, 2, held)
-    said = text("record: refused 2, line 0, place 0: the start line is not one of the system")
+    said = text(
+        "record: refused 2, line 0, place 0: "
+        "the start line is not one of the system, or --fall of 525 is not 10 to 20"
+    )
     yield "no line", answer([*words[:-1], "626"], BLACK_ROW), Answer(b"", said, 1)
     report = Report("record", {})
     say_how_it_ends(report, [first], programme.Unnumbered(), {"--into": "a\nd"})

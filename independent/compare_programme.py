@@ -24,8 +24,8 @@ from pathlib import Path
 from random import Random
 from threading import Thread, Timer
 
-from independent import caption_cases, command_cases, finished_cases, folder_cases, judge
-from independent import programme, stream
+from independent import camera_cases, caption_cases, command_cases, finished_cases, folder_cases
+from independent import judge, programme, stream
 from independent.command import (
     ANY_TEXT,
     FOLDER,
@@ -59,6 +59,7 @@ FAMILIES = (
     *folder_cases.FAMILIES,
     *caption_cases.FAMILIES,
     *finished_cases.FAMILIES,
+    *camera_cases.FAMILIES,
 )
 
 # The texts that the system has for errors.

@@ -49,6 +49,16 @@ EDGE_COUNTS = (
     (HIGHEST, HIGHEST),
 )
 
+# What a walk may record of its last line: that V was 1, and numbers that say it was 0.
+EDGE_RECORDS = (0, 1, 2, 256, 65_536, 2**31, HIGHEST)
+
+# Every line at which V may be told to fall in 525, and numbers that are no such line.
+FALLS = range(10, 21)
+NO_FALLS = (
+    0, 1, 9, 21, 22, 263, 273, 283, 65_536 + 15, 2**31 + 15, HIGHEST - 263, HIGHEST,
+)  # fmt: skip
+ANY_FALLS = (*FALLS, *NO_FALLS)
+
 # Numbers about those of any refusal, and beyond them.
 EDGE_NUMBERS = (*range(LAST_REFUSAL + 2), 255, 256, 65_536, 2**31, HIGHEST)
 EDGE_SUMS = (0, 1, 2**31, 2**32 - 1, 2**32, 2**63, 2**64 - 2**32, 2**64 - 2, 2**64 - 1)

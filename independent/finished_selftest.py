@@ -3,23 +3,19 @@
 The wrong models are errors that a builder is drawn to: the cases must notice them.
 """
 
-from functools import lru_cache
-from itertools import chain, product
-from unittest.mock import patch
+from itertools import product
 
-from independent import command, finished, finished_cases, finishing_cases, index, index_cases
-from independent import judge, kinds, retention
-from independent.cases import cases
+from independent import finished, finished_cases, finishing_cases, index, index_cases
+from independent import judge, retention
 from independent.command import FOLDER, Answer, answer
 from independent.command_selftest import TWO_LINES, text, two_lines_with
-from independent.compare import SEED
 from independent.finished import Finishing, Meeting
 from independent.index import ENTRY, TRAILER, Asked, Entry, Question, Trailer
 from independent.judge import Walk
-from independent.material import Choice, Source
+from independent.material import Choice
 from independent.protocol import Wide
 from independent.recordings import Run, lines_of
-from independent.wrong_models import is_noticed, question
+from independent.wrong_models import noticed_answers, noticed_commands
 
 # Of four lines of 625 the second has one code repaired and the last has two.
 REPAIRS = (0, 1, 0, 2)
@@ -149,7 +145,7 @@ def finishings():
     yield "no system", finished.fresh_run(626, 0), Run(626, 0, Walk(0, 0, 0, 0), 1, 0)
     begun, data = finished.finishing_of(run), DAMAGED[4:]
     one = Finishing(run._replace(walk=Walk(625, 23, 1, 1)), 1)
-    two = Finishing(run._replace(walk=Walk(625, 24, 2, 1)), 1)
+    two = Finishing(run._replace(walk=Walk(625, 24, 2, 1, 1)), 1)
     entry = bytes(4) + b"\1\0"
     for size, due in (
         (0, (begun, 0, 0, b"")),
@@ -417,31 +413,12 @@ WRONG_COMMANDS = (
 )
 
 
-@lru_cache(maxsize=None)
-def right_answers():
-    """Some cases of these families, and the answers that are due."""
-    chosen = cases(SEED, kinds.FINISHES, Choice(first=150, step=5), FAMILIES)
-    return [(case, kinds.answer_parts(case)) for case in chosen]
-
-
-@lru_cache(maxsize=None)
-def right_commands():
-    """What cases of these families ask the command, and the answers that are due."""
-    with patch.object(finished_cases, "case_of", question):
-        chosen = [family(Source(SEED, family.__name__)) for family in COMMAND_FAMILIES]
-        questions = list(chain.from_iterable(chosen))
-    return [(asked, command.answer(*asked)) for asked in questions]
-
-
 def wrong_finishes():
-    for sentence, *replaced in WRONG_MODELS:
-        yield sentence, is_noticed(right_answers(), kinds.answer_parts, *replaced), True
+    return noticed_answers(WRONG_MODELS, FAMILIES, Choice(first=150, step=5))
 
 
 def wrong_retention():
-    for sentence, *replaced in WRONG_COMMANDS:
-        noticed = is_noticed(right_commands(), lambda asked: command.answer(*asked), *replaced)
-        yield sentence, noticed, True
+    return noticed_commands(WRONG_COMMANDS, finished_cases, COMMAND_FAMILIES)
 
 
 GROUPS = (

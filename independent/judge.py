@@ -2,9 +2,10 @@
 
 Each rule stands beside the sentence of document 01 ("Precise rules and scope
 of the build") that it obeys, given between quotation marks; those on packets
-are of request L6 of document 02. Words and samples are lists of 16-bit
-integers, the numbers of a walk are 32-bit integers. A refusal is a pair of
-number and place; None stands where nothing is refused.
+are of request L6 of document 02, those on the line at which V falls of L1. Words
+and samples are lists of 16-bit integers, the numbers of a walk are 32-bit
+integers. A refusal is a pair of number and place; None stands where nothing is
+refused.
 """
 
 import struct
@@ -42,10 +43,11 @@ class System(NamedTuple):
     lines: int
     v_lines: tuple
     f_lines: tuple
+    falls: tuple
 
 
 # "The figures of each system are one set that belongs to that system; nothing
-# repeats them elsewhere."
+# repeats them elsewhere."; "In 525, V may fall at any line from 10 to 20 and 273 to 283."
 SYSTEMS = {
     525: System(
         words=1716,
@@ -53,6 +55,7 @@ SYSTEMS = {
         lines=525,
         v_lines=((1, 19), (264, 282)),
         f_lines=((266, 525), (1, 3)),
+        falls=((10, 20), (273, 283)),
     ),
     625: System(
         words=1728,
@@ -60,8 +63,15 @@ SYSTEMS = {
         lines=625,
         v_lines=((624, 625), (1, 22), (311, 335)),
         f_lines=((313, 625),),
+        falls=(),
     ),
 }
+
+# The fall line of document 01's table: "V = 1", "1-19, 264-282"
+TABLE_FALL = 20
+
+# "the first field's fall line, the second's being 263 later"
+SECOND_FALL = 263
 
 
 def system_of(number):
@@ -69,12 +79,14 @@ def system_of(number):
     return number if number in SYSTEMS else 625
 
 
-# "A walk holds system, awaited line number, lines read, repairs."
+# "A walk holds system, awaited line number, lines read, repairs."; "The walk records
+# whether its last accepted line had V = 0; a fresh walk's says no."
 class Walk(NamedTuple):
     system: int
     line: int
     lines_read: int
     repairs: int
+    fallen: int = 0
 
 
 # "a walk all zero"
@@ -193,8 +205,30 @@ def due_f(system, line):
     return within(line, SYSTEMS[system].f_lines)
 
 
-def due_v(system, line):
+def table_v(system, line):
     return within(line, SYSTEMS[system].v_lines)
+
+
+def v_written(system, line, fall):
+    """The V of a line that is written, where V falls at this line of the first field."""
+    figures = SYSTEMS[system]
+    # "625 ignores it"
+    if not figures.falls:
+        return table_v(system, line)
+    falls = fall, fall + SECOND_FALL
+    return within(line, [(first, at - 1) for (first, _), at in zip(figures.v_lines, falls)])
+
+
+def vs_due(walk):
+    """Each V that may be due in the line that a walk awaits."""
+    system, line = system_of(walk.system), walk.line
+    for first, last in SYSTEMS[system].falls:
+        if first <= line < last:
+            # "In 525 it is looked at only on lines 11 to 19 and 274 to 282: after yes 0
+            # is due, after no either."
+            return (0,) if walk.fallen and line != first else (0, 1)
+    # "Once 0 it stays 0 until line 264 or line 1."
+    return (table_v(system, line),)
 
 
 def line_after(system, line, steps=1):
@@ -236,15 +270,24 @@ class Due(NamedTuple):
     odd: int
 
 
-def due_of(system, line):
+def due_of(system, line, fall=TABLE_FALL):
     """What is due in a line that is written."""
-    return Due(system, due_f(system, line), due_v(system, line), *FILL)
+    return Due(system, due_f(system, line), v_written(system, line, fall), *FILL)
+
+
+def v_told(fourth):
+    """The V that a fourth word tells."""
+    tag, fvh, _, _ = correct(fourth)
+    # Of one that does not correct the line is refused: the table's V is taken.
+    return 1 if tag == REFUSED else fvh >> 1 & 1
 
 
 def walk_due(walk, fourth):
     """What is due in a line that is read at a walk, by the fourth word of its EAV."""
-    # "F and V belong to the line number": as yet no word decides.
-    return due_of(system_of(walk.system), walk.line)
+    # "The corrected V of the EAV decides whether samples or fill are due in the line"
+    vs, told = vs_due(walk), v_told(fourth)
+    v = told if told in vs else vs[0]
+    return due_of(system_of(walk.system), walk.line)._replace(v=v)
 
 
 def due_in(walk, words):
@@ -296,6 +339,19 @@ def line_number_refusal(system, line):
     if not 1 <= line <= SYSTEMS[system].lines:
         return (NO_LINE, 0)
     return None
+
+
+def is_fall(system, fall):
+    """Whether V may be told to fall at this line of the first field."""
+    falls = SYSTEMS[system].falls
+    # "outside 10 to 20 is refusal 2; 625 ignores it"
+    return not falls or within(fall, falls[:1])
+
+
+def numbers_refusal(system, line, fall):
+    """What refuses the numbers by which a line is written."""
+    refusal = line_number_refusal(system, line)
+    return refusal or (None if is_fall(system, fall) else (NO_LINE, 0))
 
 
 def walk_refusal(walk):
@@ -417,6 +473,8 @@ def moved(walk, due, report):
         line=next_line(due.system, walk.line),
         lines_read=counted(walk.lines_read, 1),
         repairs=counted(walk.repairs, repairs(report)),
+        # "whether its last accepted line had V = 0"
+        fallen=1 - due.v,
     )
 
 
@@ -582,11 +640,11 @@ def write_line(due, y, cb, cr, between, active, words):
     return written(due, interleaved(y, cb, cr), between, active, words)
 
 
-def write(system, line, *slices):
+def write(system, line, fall, *slices):
     """Number, place and the line's words afterwards."""
     # "Writer: 1, 2, 3, then 12"
-    refusal = line_number_refusal(system, line)
-    return (*refusal, slices[-1]) if refusal else write_line(due_of(system, line), *slices)
+    refusal = numbers_refusal(system, line, fall)
+    return (*refusal, slices[-1]) if refusal else write_line(due_of(system, line, fall), *slices)
 
 
 def serial_refusal(bits, last, words, out):

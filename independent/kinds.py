@@ -41,10 +41,11 @@ JUDGEMENT = (*ANSWER, *REPORT, *WALK, *PACKETS)
 STATE = ("bits", "last")
 SAMPLES = ("y", "cb", "cr")
 READY = ("between", "active")
+WRITTEN = ("system", "line", "fall")
 DUE = judge.Due._fields
 RUN = ("system", "start", *(f"walk's {name}" for name in WALK), *ANSWER)
 OUTCOME = recordings.Outcome._fields
-TAPE = (*(f"walk's {name}" for name in WALK), "most", *ANSWER)
+TAPE = (*(f"walk's {name}" for name in WALK), "most", "fall", *ANSWER)
 
 
 def wide(*names):
@@ -61,7 +62,7 @@ LINES = {
     protocol.FRESH: Kind(judge.fresh, ("system", "line"), (*ANSWER, *WALK)),
     protocol.TAKE: Kind(judge.take, ("walk", "words", *SAMPLES), ANSWER),
     protocol.ACTIVE: Kind(active, ("walk", "words"), ("count",)),
-    protocol.WRITE: Kind(judge.write, ("system", "line", *SAMPLES, *READY, "words"), ANSWER),
+    protocol.WRITE: Kind(judge.write, (*WRITTEN, *SAMPLES, *READY, "words"), ANSWER),
     protocol.CODE: Kind(judge.code, (*STATE, "words", "out"), (*ANSWER, *STATE)),
     protocol.DECODE: Kind(judge.decode, (*STATE, "words", "out"), (*ANSWER, *STATE)),
     protocol.CAPTURE_CORRECT: Kind(judge.capture_correct, ("word",), ("answer",)),
@@ -82,7 +83,9 @@ SHARED = {
     protocol.MOVED: Kind(calls.moved, ("walk", "due", "report"), WALK),
     protocol.NAMED: Kind(calls.named_refusal, ("system", "line"), ANSWER),
     protocol.STANDING: Kind(calls.standing, ("walk", "given", "due"), ANSWER),
-    protocol.DUE_OF: Kind(judge.due_of, ("system", "line"), DUE),
+    protocol.WRITTEN_REFUSAL: Kind(calls.written_refusal, WRITTEN, ANSWER),
+    protocol.V_WRITTEN: Kind(judge.v_written, WRITTEN, ("v",)),
+    protocol.DUE_OF: Kind(judge.due_of, WRITTEN, DUE),
     protocol.DUE_FLAGS: Kind(judge.due_flags, ("due", "h"), ("fvh",)),
     protocol.DUE_AT: Kind(calls.due_at, ("due", "offset"), ("what", "value")),
     protocol.BUFFER_REFUSAL: Kind(calls.buffer_refusal, SAMPLES, ANSWER),
@@ -111,14 +114,14 @@ SHARED = {
 PROGRAMMES = {
     protocol.UNPACK: Kind(rows.unpack, ("row", "samples"), ANSWER),
     protocol.PACK: Kind(rows.pack, ("samples", "row"), ANSWER),
-    protocol.RECORD: Kind(tapes.record, ("walk", "row", *READY, "line"), JUDGEMENT),
+    protocol.RECORD: Kind(tapes.record, ("walk", "fall", "row", *READY, "line"), JUDGEMENT),
     protocol.EXTRACT: Kind(tapes.extract, ("walk", "data", "row"), JUDGEMENT),
-    protocol.TAKES_ROW: Kind(tapes.takes_row, ("walk",), ("takes",)),
-    protocol.ENDS_FRAME: Kind(tapes.ends_frame, ("walk",), ("ends",)),
+    protocol.TAKES_ROW: Kind(tapes.takes_row, ("walk", "fall"), ("takes",)),
+    protocol.ENDS_FRAME: Kind(tapes.ends_frame, ("walk", "fall"), ("ends",)),
     protocol.PIECE_LINES: Kind(tapes.piece_lines, ("system", "frames"), ("lines",)),
     protocol.ENDS_PIECE: Kind(tapes.ends_piece, ("walk", "most"), ("ends",)),
     protocol.EXTRACT_NEXT: Kind(tapes.extract_next, ("run", "data", "row"), (*RUN, "gives")),
-    protocol.TAPE_BEGIN: Kind(tapes.begin_tape, ("system", "start", "most"), TAPE),
+    protocol.TAPE_BEGIN: Kind(tapes.begin_tape, ("system", "start", "most", "fall"), TAPE),
     protocol.TURNS: Kind(tapes.turns, ("tape",), ("turns",)),
     protocol.TURNED: Kind(tapes.turned, ("tape",), TAPE),
     protocol.TAPE_ENDS: Kind(tapes.tape_ends, ("tape",), ("ends",)),
@@ -227,6 +230,8 @@ ASKED = {
     protocol.MOVED: ("system::Walk::moved",),
     protocol.NAMED: ("system::named_refusal",),
     protocol.STANDING: ("system::Walk::standing",),
+    protocol.WRITTEN_REFUSAL: ("system::written_refusal",),
+    protocol.V_WRITTEN: ("system::System::v_written",),
     protocol.DUE_OF: ("system::Due::of",),
     protocol.DUE_FLAGS: ("system::Due::flags",),
     protocol.DUE_AT: ("line::due_at",),

@@ -5,7 +5,7 @@ from random import Random
 from typing import NamedTuple
 
 from independent import judge
-from independent.edges import RESERVED_WORDS, SYSTEMS
+from independent.edges import EDGE_RECORDS, RESERVED_WORDS, SYSTEMS
 from independent.judge import CODE_BITS, NO_READY, fourth_offsets, line_after, samples_of
 from independent.packets import LEAST_WORDS, packet
 from independent.words import FIRST_SAMPLE, LAST_SAMPLE
@@ -29,6 +29,12 @@ def inverted(count):
     return [sum(1 << bit for bit in bits) for bits in combinations(CODE_BITS, count)]
 
 
+def other_code(word, mask):
+    """The fourth word whose F, V, H differ from a fourth word's in the bits of a mask."""
+    _, fvh, _, _ = judge.correct(word)
+    return judge.FOURTH_WORDS[fvh ^ mask]
+
+
 def timing_offsets(system):
     """Offsets of all timing words."""
     starts = judge.code_starts(system)
@@ -48,7 +54,7 @@ def line_numbers(system):
 
 
 def line_kind(system, line):
-    return judge.due_f(system, line), judge.due_v(system, line)
+    return judge.due_f(system, line), judge.table_v(system, line)
 
 
 def line_of_each_kind(system):
@@ -62,7 +68,7 @@ def line_of_each_kind(system):
 def plain_and_blank_line(system):
     """The first lines with V = 0 and V = 1."""
     return [
-        next(line for line in line_numbers(system) if judge.due_v(system, line) == v)
+        next(line for line in line_numbers(system) if judge.table_v(system, line) == v)
         for v in (0, 1)
     ]
 
@@ -146,10 +152,19 @@ class Source:
     def serial_words(self, length):
         return self.random.choices(range(judge.LAST_WORD + 1), k=length)
 
+    def of_due(self, due, ready=NO_READY):
+        """A clean line in which this is due, with random samples, and packets if they are given."""
+        words = self.junk(judge.SYSTEMS[due.system].words)
+        return judge.write_line(due, *samples_of(self.picture()), *ready, words)[2]
+
     def written(self, system, line, ready=NO_READY):
-        """A clean line with random samples, and packets if they are given."""
-        words = self.junk(judge.SYSTEMS[system].words)
-        return judge.write(system, line, *samples_of(self.picture()), *ready, words)[2]
+        """The same by the number of a line, as the table has it."""
+        return self.of_due(judge.due_of(system, line), ready)
+
+    def in_turn(self, start, vs):
+        """Clean lines of 525 from one on, with these V."""
+        lines = ((line_after(525, start, steps), v) for steps, v in enumerate(vs))
+        return [self.of_due(judge.due_of(525, line)._replace(v=v)) for line, v in lines]
 
     def packet(self, count):
         """A packet of so many user words."""
@@ -186,8 +201,15 @@ class Source:
         lines_read = self.random.randrange(judge.LINES_LIMIT)
         return lines_read, self.random.randrange(2 * lines_read + 1)
 
+    def any_walk(self, system, line):
+        """A walk that may have had either V before a line."""
+        return judge.Walk(system, line, *self.counts(), self.random.choice(EDGE_RECORDS))
+
     def walk(self, system, line):
-        return judge.Walk(system, line, *self.counts())
+        """A walk at which the table's V may be due."""
+        walk = self.any_walk(system, line)
+        is_due = judge.table_v(judge.system_of(system), line) in judge.vs_due(walk)
+        return walk if is_due else walk._replace(fallen=0)
 
     def offered(self, lines):
         """Clean lines, each behind a walk that awaits it."""

@@ -1,7 +1,7 @@
 """Packets in spaces, in lines and on tapes, against words that were written by hand."""
 
 from independent import calls, judge, tapes
-from independent.judge import CLEAN_REPORT, NO_PACKETS, Due, PacketWords, Walk
+from independent.judge import CLEAN_REPORT, NO_PACKETS, TABLE_FALL, Due, PacketWords, Walk
 from independent.material import changed
 from independent.packets import checksum, header_word, judge_space, packet
 from independent.rows import BLACK_ROW, with_word
@@ -82,7 +82,7 @@ def rows_of_packets():
 
 def written(system, line, between, active):
     words = [7] * judge.SYSTEMS[system].words
-    return judge.write(system, line, *SAMPLES, between, active, words)
+    return judge.write(system, line, TABLE_FALL, *SAMPLES, between, active, words)
 
 
 def lines_with_packets():
@@ -135,7 +135,7 @@ def refused_ready_words():
         yield name, written(system, line, between, active)[:2], refusal
     outside = judge.samples_of([3] * 1440)
     for between, refusal in ((CAPTION, (12, 0)), ([64], (10, 4))):
-        answer = judge.write(525, 20, *outside, between, [], [7] * 1716)
+        answer = judge.write(525, 20, TABLE_FALL, *outside, between, [], [7] * 1716)
         yield f"12 and {refusal[0]}", answer, (*refusal, [7] * 1716)
     due, lent = Due(525, 0, 0, 9, 8), [7] * 1716
     for part, active, words, refusal in (
@@ -149,9 +149,10 @@ def refused_ready_words():
 
 def recorded_packets():
     walk, row, line = Walk(625, 22, 5, 0), b"", bytes(3456)
-    answer = tapes.record(walk, row, CAPTION, EMPTY, line)
-    yield "recorded", answer[:5], (0, 0, CLEAN_REPORT, (625, 23, 6, 0), (9, 7))
+    answer = tapes.record(walk, TABLE_FALL, row, CAPTION, EMPTY, line)
+    yield "recorded", answer[:5], (0, 0, CLEAN_REPORT, (625, 23, 6, 0, 0), (9, 7))
     yield "recorded line", answer[5], judge.bytes_of(written(625, 22, CAPTION, EMPTY)[2])
+    yield "extracted", tapes.extract(walk, answer[5], bytes(1920))[4], (9, 7)
     plain = Walk(625, 23, 5, 0)
     spare, outside = with_word(BLACK_ROW, 9, 1 << 30), with_word(BLACK_ROW, 0, 0)
     for name, given, refusal in (
@@ -161,15 +162,13 @@ def recorded_packets():
         ("packets before samples", (outside, [5], []), (10, 4)),
         ("samples last", (outside, EMPTY, []), (12, 0)),
     ):
-        answer = tapes.record(plain, *given, line)
+        answer = tapes.record(plain, TABLE_FALL, *given, line)
         yield name, answer, (*refusal, CLEAN_REPORT, plain, NO_PACKETS, line)
-    tape = tapes.begin_tape(625, 22, 7)
+    tape = tapes.begin_tape(625, 22, 7, TABLE_FALL)
     after = tape._replace(walk=Walk(625, 23, 1, 0))
     yield "taped", tapes.tape_next(tape, row, CAPTION, [], line)[0], after
     refused = tape._replace(number=10, place=4)
     yield "refused on tape", tapes.tape_next(tape, row, [512], [], line), (refused, line)
-    extracted = tapes.extract(walk, tapes.record(walk, row, CAPTION, EMPTY, line)[5], bytes(1920))
-    yield "extracted", extracted[4], (9, 7)
 
 
 GROUPS = (

@@ -7,6 +7,7 @@ from typing import NamedTuple
 
 from independent import judge
 from independent.entries import FIRST_ORDINAL, Entries, NotTaken
+from independent.judge import TABLE_FALL
 from independent.packets import START
 from independent.recordings import HEADER_BYTES, Run, begin, header, line_bytes, parts
 from independent.rows import ROW_BYTES
@@ -69,8 +70,12 @@ class Recorder:
         self.ordinal += 1
         self.pieces[-1] += line
 
+    def takes_row(self):
+        """Whether the line that is written next is of a row."""
+        return takes_row(self.tape.walk, self.tape.fall)
+
     def put_row(self, row):
-        while not takes_row(self.tape.walk):
+        while not self.takes_row():
             self.put_line()
         self.put_line(row)
 
@@ -86,7 +91,7 @@ class Recorder:
     def goes_on(self):
         """Whether there may be a line more, and it takes no row."""
         is_full = judge.walk_refusal(self.tape.walk) and not turns(self.tape)
-        return not is_full and not takes_row(self.tape.walk)
+        return not is_full and not self.takes_row()
 
     def put_entries(self):
         """Lines as far as entries are left."""
@@ -113,9 +118,9 @@ def stop_of(call, *arguments):
     return None
 
 
-def record_pieces(system, start, data, most=NEVER_FULL, packets=b""):
+def record_pieces(system, start, data, most=NEVER_FULL, packets=b"", fall=TABLE_FALL):
     """The recordings of rows and packets, in turn, and why not all were taken, or None."""
-    tape = begin_tape(system, start, most)
+    tape = begin_tape(system, start, most, fall)
     if tape.number:
         return [], Refused(tape.number, 0, tape.place)
     recorder = Recorder(tape, packets)
@@ -123,9 +128,9 @@ def record_pieces(system, start, data, most=NEVER_FULL, packets=b""):
     return list(map(bytes, recorder.pieces)), stopped
 
 
-def record(system, start, data):
+def record(system, start, data, fall=TABLE_FALL):
     """The one recording of the rows, and the refusal as number, line and place, or None."""
-    pieces, stopped = record_pieces(system, start, data)
+    pieces, stopped = record_pieces(system, start, data, fall=fall)
     return b"".join(pieces), stopped and stopped.args
 
 

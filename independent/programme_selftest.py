@@ -1,7 +1,7 @@
 """Whole programmes against recordings, rows and words that were written by hand."""
 
 from independent import judge
-from independent.judge import Walk
+from independent.judge import TABLE_FALL, Walk
 from independent.programme import (
     Recorder,
     Unnumbered,
@@ -65,7 +65,7 @@ def recorded_pieces():
 
 def tape_at(system, line, lines, most=NEVER_FULL):
     """A tape that so many lines were written on."""
-    return Tape(Walk(system, line, lines, 0), most, *judge.ACCEPTED)
+    return Tape(Walk(system, line, lines, 0), most, TABLE_FALL, *judge.ACCEPTED)
 
 
 def full_pieces():

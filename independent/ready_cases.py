@@ -7,7 +7,8 @@ from typing import NamedTuple
 from independent import judge, protocol
 from independent.call_cases import tape_at
 from independent.due_cases import any_dues, room
-from independent.judge import LINES_LIMIT, Due, Walk, line_after, samples_of
+from independent.edges import FALLS
+from independent.judge import LINES_LIMIT, TABLE_FALL, Due, Walk, line_after, samples_of
 from independent.material import changed, chosen_lines, line_numbers, of_both
 from independent.material import plain_and_blank_line
 from independent.packet_cases import blank_and_plain_spaces, filled, other_words, packets_of
@@ -23,6 +24,7 @@ class Write(NamedTuple):
 
     system: int
     line: int
+    fall: int
     y: list
     cb: list
     cr: list
@@ -57,6 +59,7 @@ class Record(NamedTuple):
     """What is given to record a row at a walk."""
 
     walk: Walk
+    fall: int
     row: bytes
     between: list
     active: list
@@ -76,31 +79,31 @@ class Taped(NamedTuple):
 # Calls that take ready packet words; each gets those of both spaces.
 
 
-def write(source, system, line, ready):
+def write(source, system, line, ready, fall=TABLE_FALL):
     words = source.junk(judge.SYSTEMS[system].words)
-    return protocol.WRITE, Write(system, line, *samples_of(source.picture()), *ready, words)
+    return protocol.WRITE, Write(system, line, fall, *samples_of(source.picture()), *ready, words)
 
 
-def write_line(source, system, line, ready):
-    due = judge.due_of(system, line)
+def write_line(source, system, line, ready, fall=TABLE_FALL):
+    due = judge.due_of(system, line, fall)
     given = WriteLine(due, *samples_of(source.picture()), *ready, room(source, due))
     return protocol.WRITE_LINE, given
 
 
-def write_part(source, system, line, ready):
-    due = judge.due_of(system, line)
+def write_part(source, system, line, ready, fall=TABLE_FALL):
+    due = judge.due_of(system, line, fall)
     return protocol.WRITE_PART, WritePart(due, source.picture(), *ready, room(source, due))
 
 
-def record(source, system, line, ready):
-    walk = source.walk(system, line)
+def record(source, system, line, ready, fall=TABLE_FALL):
+    walk = source.any_walk(system, line)
     data = source.junk_bytes(line_bytes(walk))
-    return protocol.RECORD, Record(walk, row_of(source.picture()), *ready, data)
+    return protocol.RECORD, Record(walk, fall, row_of(source.picture()), *ready, data)
 
 
-def record_on_tape(source, system, line, ready):
-    _, (walk, *given) = record(source, system, line, ready)
-    return protocol.TAPE_NEXT, Taped(tape_at(source, walk), *given)
+def record_on_tape(source, system, line, ready, fall=TABLE_FALL):
+    _, (walk, _, *given) = record(source, system, line, ready)
+    return protocol.TAPE_NEXT, Taped(tape_at(source, walk, fall), *given)
 
 
 CALLS = (write, write_line, write_part, record, record_on_tape)
@@ -203,11 +206,13 @@ def faults_in(source):
     return (
         ("system", lambda system: system + 1),
         ("line", lambda line: 0),
+        ("fall", lambda fall: fall + 1),
         ("walk", lambda walk: walk._replace(system=0)),
         ("walk", lambda walk: walk._replace(line=0)),
         ("walk", lambda walk: walk._replace(lines_read=LINES_LIMIT)),
         ("tape", lambda tape: tape._replace(number=judge.NOT_A_SAMPLE, place=9)),
         ("tape", lambda tape: tape._replace(walk=tape.walk._replace(line=0))),
+        ("tape", lambda tape: tape._replace(fall=tape.fall + 1)),
         ("words", shortened),
         ("data", shortened),
         ("y", shortened),
@@ -243,7 +248,7 @@ def some_of(faults):
 def refusals_at_once(source):
     """Two refusals at once, and more: which of them is told."""
     for (system, line), call in product(chosen_lines(), CALLS):
-        blank = judge.due_v(system, line)
+        blank = judge.table_v(system, line)
         ready = packets_of(source, (1, 0)), packets_of(source, (2,)) if blank else []
         kind, given = call(source, system, line, ready)
         faults = [fault for fault in faults_in(source) if fault[0] in given._fields]
@@ -254,9 +259,10 @@ def refusals_at_once(source):
 def captions_on_tapes(source):
     """A row and packets offered at each of some lines in turn, some of them refused."""
     for system, line in chosen_lines():
-        tape = begin_tape(system, line_after(system, line, -9), NEVER_FULL)
+        fall = source.random.choice(FALLS)
+        tape = begin_tape(system, line_after(system, line, -9), NEVER_FULL, fall)
         for _ in range(30):
-            ready = source.ready(judge.due_of(system, tape.walk.line))
+            ready = source.ready(judge.due_of(system, tape.walk.line, fall))
             if source.random.randrange(5) == 0:
                 ready = [of_bad_parity(ready[0]), ready[1]]
             data = source.junk_bytes(line_bytes(tape.walk))

@@ -4,9 +4,9 @@ from itertools import product
 from typing import NamedTuple, Union
 
 from independent import judge
-from independent.edges import SYSTEMS
-from independent.judge import fourth_offsets, line_after
-from independent.material import Source, changed, edge_offsets, inverted
+from independent.edges import FALLS, SYSTEMS
+from independent.judge import fourth_offsets, line_after, v_written
+from independent.material import Source, changed, edge_offsets, inverted, other_code
 from independent.packets import header_word
 from independent.recordings import HEADER_BYTES, header, header_of, lines_of, recording
 
@@ -187,6 +187,60 @@ def captions(source):
         yield data, PIPE
 
 
+def vs_of(start, count, *falls):
+    """The V of lines of 525 from one on, where each field, or both, has a fall line."""
+    lines = [line_after(525, start, steps) for steps in range(count)]
+    return [v_written(525, line, falls[-1] if line > 263 else falls[0]) for line in lines]
+
+
+def of_vs(source, start, vs):
+    return recording(525, start, source.in_turn(start, vs))
+
+
+def fall_lines(source):
+    """A frame and more of it by every fall line, and fields of different fall lines."""
+    for fall in FALLS:
+        yield of_vs(source, 505, vs_of(505, 565, fall)), FILE
+    for falls in ((10, 20), (20, 10), (13, 17)):
+        data = of_vs(source, 8, vs_of(8, 290, *falls))
+        yield data, PIPE
+        yield damaged(source, data), FILE
+
+
+def rising_again(source):
+    """V falls at each line of a field, and is 1 again at each line behind it."""
+    for start, first in product((9, 272), range(1, 11)):
+        for again in range(first + 1, 13):
+            vs = [1] * first + [0] * (again - first) + [1]
+            yield of_vs(source, start, vs), PIPE
+
+
+def records_carried(source):
+    """Lines over the end of a field, and from each line of a field on, with V of either kind."""
+    for start, fall in product((258, 520), (10, 15, 20)):
+        whole = of_vs(source, start, vs_of(start, 35, fall))
+        yield whole, PIPE
+        yield damaged(source, whole), PIPE
+    for start in (1, 264):
+        before = line_after(525, start, -2)
+        for vs in ((0, 0, 0), (0, 0, 1, 0), (0, 0, 1, 1), (0, 1), (1,)):
+            yield of_vs(source, before, vs), PIPE
+    for field, first in product((0, 263), range(9, 22)):
+        for vs in ((0, 0), (0, 1), (1, 0), (1, 1)):
+            yield of_vs(source, field + first, vs), PIPE
+
+
+def other_savs(source):
+    """A SAV of another V than that of its EAV, where either is due."""
+    _, sav = fourth_offsets(525)
+    for start, v in product((9, 10, 14, 19, 272, 273, 278, 282), (0, 1)):
+        lines = source.in_turn(start, (1 if start in (9, 272) else v, v))
+        for n, words in enumerate(lines):
+            for mask in (0, source.random.choice(inverted(1))):
+                other = other_code(words[sav], 2) ^ mask
+                yield recording(525, start, replaced(lines, n, {sav: other})), PIPE
+
+
 def pieces(source):
     """Small inputs byte by byte, larger ones in odd pieces."""
     for system in SYSTEMS:
@@ -211,6 +265,10 @@ FAMILIES = (
     refused_codes,
     foreign_lines,
     captions,
+    fall_lines,
+    rising_again,
+    records_carried,
+    other_savs,
     pieces,
 )
 

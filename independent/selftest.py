@@ -5,10 +5,12 @@ Run: python3 -m independent.selftest
 
 import sys
 
-from independent import calls_selftest, captions_selftest, command_selftest, finished_selftest
-from independent import judge, packets_selftest, programme_selftest, wrong_models
+from independent import calls_selftest, captions_selftest, command_selftest, falls_selftest
+from independent import finished_selftest, judge, packets_selftest, programme_selftest
+from independent import wrong_models
 from independent.edges import LISTED_LENGTHS, LISTED_LINES, LISTED_SAMPLES, LISTED_SERIAL
-from independent.judge import CLEAN_REPORT, FRESH_STATE, NO_READY, Report, Walk, fourth_offsets
+from independent.judge import CLEAN_REPORT, FRESH_STATE, NO_READY, TABLE_FALL, Report, Walk
+from independent.judge import fourth_offsets
 from independent.material import changed
 from independent.protocol import pack_slice
 from independent.recordings import Run, confirm, header, run_on
@@ -26,7 +28,7 @@ def empty_line(system):
 
 
 def written(system, line):
-    return judge.write(system, line, *buffers(), *NO_READY, empty_line(system))[2]
+    return judge.write(system, line, TABLE_FALL, *buffers(), *NO_READY, empty_line(system))[2]
 
 
 def in_turn(walk, words, *lent):
@@ -59,9 +61,9 @@ def marked_samples():
     m7 = changed(written(625, 100), {3: 876})
     yield "M7 refused", reading(625, 100, m7)[:2], (9, 3)
     yield "M7 three bits", (876 ^ 628).bit_count(), 3
-    yield "M8", [judge.due_v(625, line) for line in (22, 23)], [1, 0]
+    yield "M8", [judge.table_v(625, line) for line in (22, 23)], [1, 0]
     yield "M9 F", [judge.due_f(525, line) for line in (3, 4)], [1, 0]
-    yield "M9 V", [judge.due_v(525, line) for line in (3, 4)], [1, 1]
+    yield "M9 V", [judge.table_v(525, line) for line in (3, 4)], [1, 1]
     coded = judge.code(*FRESH_STATE, [1, 0], [0, 0])
     yield "M10", (coded[:2], coded[4]), ((0, 0), [543, 736])
     yield "M11", judge.code(*FRESH_STATE, [1], [0])[2:4], (17, 1)
@@ -75,7 +77,7 @@ def listed_samples():
         yield f"read {sample}", reading(625, 23, line)[:2], (number, place)
         y, cb, cr = buffers()
         y[2] = sample
-        answer = judge.write(625, 23, y, cb, cr, *NO_READY, empty_line(625))[:2]
+        answer = judge.write(625, 23, TABLE_FALL, y, cb, cr, *NO_READY, empty_line(625))[:2]
         yield f"write {sample}", answer, (12, 5) if number else (0, 0)
 
 
@@ -83,7 +85,7 @@ def listed_lines():
     for line in LISTED_LINES:
         for system in judge.SYSTEMS:
             due = line in range(1, system + 1)
-            expected = (0, 0, (system, line, 0, 0)) if due else (2, 0, (0, 0, 0, 0))
+            expected = (0, 0, (system, line, 0, 0, 0)) if due else (2, 0, (0, 0, 0, 0, 0))
             yield f"fresh {system} {line}", judge.fresh(system, line), expected
 
 
@@ -99,7 +101,7 @@ def listed_lengths():
 def listed_counts():
     line = written(525, 525)
     answer = reading(525, 525, line, lines_read=9_999_999)
-    yield "9,999,999 lines read", answer[:4], (0, 0, CLEAN_REPORT, (525, 1, 10_000_000, 0))
+    yield "9,999,999 lines read", answer[:4], (0, 0, CLEAN_REPORT, (525, 1, 10_000_000, 0, 1))
     answer = reading(525, 525, line, lines_read=10_000_000)
     yield "10,000,000 lines read", answer[:2], (4, 0)
 
@@ -123,7 +125,7 @@ def field_intervals():
         (525, {1: 1, 20: 0, 264: 1, 283: 0}, {4: 0, 266: 1}),
         (625, {23: 0, 311: 1, 336: 0, 624: 1}, {1: 0, 313: 1}),
     ):
-        yield f"V of {system}", turns(judge.due_v, system), v_turns
+        yield f"V of {system}", turns(judge.table_v, system), v_turns
         yield f"F of {system}", turns(judge.due_f, system), f_turns
 
 
@@ -143,10 +145,10 @@ def drawn_errors():
         yield "631 read", reading(system, 100, low)[:3], (0, 0, CLEAN_REPORT)
         last = judge.SYSTEMS[system].words - 1
         bad = changed(line, {last: 1023})
-        kept = (11, last, CLEAN_REPORT, (system, 100, 4, 1), *buffers(9))
+        kept = (11, last, CLEAN_REPORT, (system, 100, 4, 1, 0), *buffers(9))
         yield "bad last word", reading(system, 100, bad, 4, 1), kept
         both = changed(line, {eav: line[eav] ^ 4, sav: line[sav] ^ 256})
-        counted = (0, 0, Report(1, 2, 1, 8), (system, 101, 5, 3), *buffers())
+        counted = (0, 0, Report(1, 2, 1, 8), (system, 101, 5, 3, 1), *buffers())
         yield "two repaired codes", reading(system, 100, both, 4, 1), counted
 
 
@@ -190,7 +192,7 @@ def blank_lines():
     answer = reading(625, 22, line, lent=65535)
     yield "V = 1 keeps buffers", answer[4:], tuple(buffers(65535))
     yield "V = 1 is fill", judge.active_part(625, line), [512, 64] * 720
-    answer = judge.write(625, 22, *buffers(3), *NO_READY, empty_line(625))
+    answer = judge.write(625, 22, TABLE_FALL, *buffers(3), *NO_READY, empty_line(625))
     yield "V = 1 looks at no sample", answer, (0, 0, line)
 
 
@@ -233,10 +235,10 @@ def captures():
         ({last: 1024}, (5 << 16) + last),
     ):
         data = pack_slice(changed(line, changes))
-        yield f"bytes {changes}", judge.capture_judge(625, 100, 0, 0, data), expected
+        yield f"bytes {changes}", judge.capture_judge(625, 100, 0, 0, 0, data), expected
     odd = pack_slice(line)[:-1]
-    yield "bytes odd", judge.capture_judge(625, 100, 0, 0, odd), 3 << 16
-    yield "bytes counted out", judge.capture_judge(625, 100, 10**7, 0, odd), 4 << 16
+    yield "bytes odd", judge.capture_judge(625, 100, 0, 0, 0, odd), 3 << 16
+    yield "bytes counted out", judge.capture_judge(625, 100, 10**7, 0, 0, odd), 4 << 16
 
 
 def confirmed_runs():
@@ -277,6 +279,7 @@ GROUPS = (
     *calls_selftest.GROUPS,
     *packets_selftest.GROUPS,
     *captions_selftest.GROUPS,
+    *falls_selftest.GROUPS,
     *wrong_models.GROUPS,
     *finished_selftest.GROUPS,
 )

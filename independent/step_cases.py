@@ -3,10 +3,10 @@
 from itertools import cycle, product
 
 from independent import calls, judge, protocol
-from independent.call_cases import any_walks, full_pieces
+from independent.call_cases import any_walks, full_pieces, tape_at
 from independent.calls import Filled, Told
-from independent.edges import ANY_SYSTEMS, EDGE_LINES, EDGE_NUMBERS, EDGE_SUMS
-from independent.edges import HIGHEST, MOSTS, SYSTEMS
+from independent.edges import ANY_FALLS, ANY_SYSTEMS, EDGE_LINES, EDGE_NUMBERS, EDGE_SUMS
+from independent.edges import FALLS, HIGHEST, MOSTS, SYSTEMS
 from independent.judge import LINES_LIMIT, NO_READY, Walk
 from independent.material import chosen_lines
 from independent.protocol import Wide
@@ -26,10 +26,10 @@ FAR_COUNTS = (
 
 def begun_tapes(source):
     for system, start, most in product(ANY_SYSTEMS, EDGE_LINES, MOSTS):
-        yield protocol.TAPE_BEGIN, (system, start, most)
-    for system in SYSTEMS:
-        for start in range(640):
-            yield protocol.TAPE_BEGIN, (system, start, source.random.choice(MOSTS))
+        yield protocol.TAPE_BEGIN, (system, start, most, source.random.choice(ANY_FALLS))
+    for system, start in product(SYSTEMS, range(640)):
+        most, fall = source.random.choice(MOSTS), source.random.choice(ANY_FALLS)
+        yield protocol.TAPE_BEGIN, (system, start, most, fall)
 
 
 def asked(tape):
@@ -43,7 +43,7 @@ def any_tapes(source):
     """Tapes at any walk, refused and not."""
     numbers = cycle(EDGE_NUMBERS)
     for walk in any_walks(source):
-        tape = Tape(walk, source.random.choice(MOSTS), *judge.ACCEPTED)
+        tape = tape_at(source, walk, source.random.choice(ANY_FALLS))
         yield from asked(tape)
         if source.random.randrange(3) == 0:
             place = source.random.choice(PLACES)
@@ -55,7 +55,7 @@ def turning_tapes(source):
     for walk, most in full_pieces():
         refusals = (judge.WRONG_LENGTH, 1), (judge.NOT_A_SAMPLE, 1_439)
         number, place = source.random.choice((judge.ACCEPTED, judge.ACCEPTED, *refusals))
-        tape = Tape(walk, most, number, place)
+        tape = Tape(walk, most, source.random.choice(ANY_FALLS), number, place)
         yield protocol.TURNS, (tape,)
         yield protocol.TURNED, (tape,)
 
@@ -66,13 +66,14 @@ def ending_tapes(source):
     for system in SYSTEMS:
         lines = judge.SYSTEMS[system].lines
         for line in range(lines + 2):
+            fall = source.random.choice(FALLS)
             for lines_read, repairs in counts:
-                tape = Tape(Walk(system, line, lines_read, repairs), LINES_LIMIT, 0, 0)
+                tape = Tape(Walk(system, line, lines_read, repairs), LINES_LIMIT, fall, 0, 0)
                 yield protocol.TAPE_ENDS, (tape,)
             yield protocol.TAPE_ENDS, (tape._replace(number=judge.WRONG_COUNTS),)
-            refused = Tape(Walk(system, line, 7, 0), 0, judge.NOT_A_SAMPLE, 9)
+            refused = Tape(Walk(system, line, 7, 0), 0, fall, judge.NOT_A_SAMPLE, 9)
             yield protocol.TAPE_ENDS, (refused,)
-            full = Tape(Walk(system, line, lines, 0), 2 * lines - 1, 0, 0)
+            full = Tape(Walk(system, line, lines, 0), 2 * lines - 1, fall, 0, 0)
             yield protocol.TURNS, (full,)
             yield protocol.TURNED, (full,)
 
@@ -81,7 +82,8 @@ def ended_tapes(source):
     """A row and room for its line, right and not, where a refusal was."""
     for (system, line), number in product(chosen_lines(), EDGE_NUMBERS):
         walk, place = source.walk(system, line), source.random.choice(PLACES)
-        tape = Tape(walk, source.random.choice(MOSTS), number, place)
+        fall = source.random.choice(ANY_FALLS)
+        tape = tape_at(source, walk, fall)._replace(number=number, place=place)
         size = line_bytes(walk)
         for row in (row_of(source.picture()), source.junk_bytes(ROW_BYTES), b""):
             for room in (size, size - 1, 0):
@@ -94,7 +96,8 @@ def tapes_at_the_limit(source):
     for system, lines_read in product(SYSTEMS, counts):
         ends = (1, 22, 23, judge.SYSTEMS[system].lines)
         for line, most in product(ends, (0, LINES_LIMIT, HIGHEST)):
-            tape = Tape(Walk(system, line, lines_read, 0), most, *judge.ACCEPTED)
+            fall = source.random.choice(FALLS)
+            tape = Tape(Walk(system, line, lines_read, 0), most, fall, *judge.ACCEPTED)
             yield from asked(tape)
             row, room = row_of(source.picture()), line_bytes(tape.walk)
             yield protocol.TAPE_NEXT, (tape, row, *NO_READY, source.junk_bytes(room))
@@ -104,7 +107,8 @@ def rows_on_tapes(source):
     """A row offered at each of some lines in turn, over the end of a frame and of a recording."""
     for system, before, frames in product(SYSTEMS, (0, 1, 5), (0, 1, 2)):
         lines = judge.SYSTEMS[system].lines
-        tape = begin_tape(system, lines - before, frames * lines)
+        fall = source.random.choice(FALLS)
+        tape = begin_tape(system, lines - before, frames * lines, fall)
         for _ in range(40):
             yield from asked(tape)
             tape = turned(tape) if turns(tape) else tape

@@ -65,7 +65,7 @@ def expected_outcome(run):
     assert after.number == 0 and after.walk.line == run.start
     times = run.lines // after.walk.lines_read - 1
     counts = {name: times * getattr(after.walk, name) for name in ("lines_read", "repairs")}
-    before_last = begun._replace(walk=begun.walk._replace(**counts))
+    before_last = begun._replace(walk=after.walk._replace(**counts))
     run_out = recordings.run_on(before_last, whole + last_bytes(run, whole))
     return recordings.outcome(run_out)
 

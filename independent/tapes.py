@@ -1,15 +1,19 @@
 """Lines of a programme: a row into a line's bytes and back, and tapes, onto which rows go in turn.
 
 Sentences between quotation marks are of the comments above the library's calls,
-of README.md and of docs/DECISIONS.md.
+of README.md and of docs/DECISIONS.md; those on the line at which V falls are of
+request L1 of document 02.
 """
 
 from typing import NamedTuple
 
 from independent import judge
 from independent.judge import (
+    ACCEPTED,
     CLEAN_REPORT,
     LINES_LIMIT,
+    NO_WALK,
+    TABLE_FALL,
     Judgement,
     PacketWords,
     Walk,
@@ -23,40 +27,47 @@ from independent.rows import row_length_refusal, row_of, row_refusal, samples_of
 NEVER_FULL = 2**32 - 1
 
 
-def due_written(walk):
-    """What is due in the line that is written at a walk."""
-    return judge.due_of(system_of(walk.system), walk.line)
+def due_written(walk, fall):
+    """What is due in the line that is written at a walk, whatever the walk records."""
+    return judge.due_of(system_of(walk.system), walk.line, fall)
 
 
-def takes_row(walk):
+def takes_row(walk, fall):
     # "its V is 0"
-    return 1 - due_written(walk).v
+    return 1 - due_written(walk, fall).v
 
 
-def row_part(walk, row):
+def row_part(walk, fall, row):
     # "a V = 0 line of the row's samples, a V = 1 line as fill, whatever the row"
-    return samples_of_row(row) if takes_row(walk) else ()
+    return samples_of_row(row) if takes_row(walk, fall) else ()
 
 
-def record_refusal(walk, row, between, active, line):
+def written_walk_refusal(walk, fall):
+    """What refuses every line that is written at a walk: 1, 2, 4."""
+    # "outside 10 to 20 is refusal 2"
+    return judge.numbers_refusal(*walk[:2], fall) or judge.counts_refusal(walk)
+
+
+def record_refusal(walk, fall, row, between, active, line):
     # "Refused are 1, 2, 4, 3 at 0 for the line's bytes, and of a row that is due
     # 3 at 1 for its length, 5 at its first word with a spare bit set"; then what the
     # writer refuses: ready packet words, and "12 at its first sample outside 4 to 1019".
-    refusal = judge.walk_refusal(walk) or judge.bytes_refusal(walk.system, line)
-    refusal = refusal or (row_refusal(row) if takes_row(walk) else None)
+    refusal = written_walk_refusal(walk, fall) or judge.bytes_refusal(walk.system, line)
+    refusal = refusal or (row_refusal(row) if takes_row(walk, fall) else None)
     if refusal:
         return refusal
-    return judge.written_refusal(due_written(walk), row_part(walk, row), between, active)
+    due, part = due_written(walk, fall), row_part(walk, fall, row)
+    return judge.written_refusal(due, part, between, active)
 
 
-def record(walk, row, between, active, line):
+def record(walk, fall, row, between, active, line):
     # "A refusal leaves the line's bytes as they were."
-    refusal = record_refusal(walk, row, between, active, line)
+    refusal = record_refusal(walk, fall, row, between, active, line)
     if refusal:
         return (*refused(walk, *refusal), line)
-    due, packets = due_written(walk), PacketWords(len(between), len(active))
+    due, packets = due_written(walk, fall), PacketWords(len(between), len(active))
     judgement = judge.accepted(walk, due, CLEAN_REPORT, packets)
-    words = judge.line_of(due, row_part(walk, row), between, active)
+    words = judge.line_of(due, row_part(walk, fall, row), between, active)
     return (*judgement, judge.bytes_of(words))
 
 
@@ -78,16 +89,16 @@ def extract(walk, data, row):
     return (*judgement, row)
 
 
-def ends_frame(walk):
+def ends_frame(walk, fall):
     # "after the last row, the line that a walk awaits belongs to a frame that has
     # begun: its V is 1, and it is not line 1"; before the first line none has.
-    return int(walk.lines_read > 0 and walk.line != 1 and not takes_row(walk))
+    return int(walk.lines_read > 0 and walk.line != 1 and not takes_row(walk, fall))
 
 
-def frame_rows(system, start=1):
+def frame_rows(system, start=1, fall=TABLE_FALL):
     """How many rows there are from a line to the end of its frame."""
     lines = range(start, judge.SYSTEMS[system].lines + 1)
-    return sum(not judge.due_of(system, line).v for line in lines)
+    return sum(not judge.v_written(system, line, fall) for line in lines)
 
 
 def piece_lines(system, frames=None):
@@ -115,19 +126,22 @@ def extract_next(run, data, row):
     return after, int(not after.number and holds_row(run.walk, data)), row
 
 
-# "A walk over the lines that are written, the most lines of a recording, and the
-# refusal that ended it, or 0."
+# "A walk over the lines that are written, the most lines of a recording", "the first
+# field's fall line", "and the refusal that ended it, or 0."
 class Tape(NamedTuple):
     walk: Walk
     most: int
+    fall: int
     number: int
     place: int
 
 
-def begin_tape(system, start, most):
-    # "a fresh walk, or its refusal"
-    number, place, walk = judge.fresh(system, start)
-    return Tape(walk, most, number, place)
+def begin_tape(system, start, most, fall):
+    # "a fresh walk, or its refusal"; "outside 10 to 20 is refusal 2"
+    refusal = judge.numbers_refusal(system, start, fall)
+    if refusal:
+        return Tape(NO_WALK, most, fall, *refusal)
+    return Tape(judge.fresh(system, start)[2], most, fall, *ACCEPTED)
 
 
 def turns(tape):
@@ -144,11 +158,11 @@ def tape_next(tape, row, between, active, line):
     # "recorded as `record` does. A tape that was refused stays as it is."
     if tape.number:
         return tape, line
-    number, place, _, walk, _, line = record(tape.walk, row, between, active, line)
-    return Tape(walk, tape.most, number, place), line
+    number, place, _, walk, _, line = record(tape.walk, tape.fall, row, between, active, line)
+    return tape._replace(walk=walk, number=number, place=place), line
 
 
 def tape_ends(tape):
-    # "the awaited line still belongs to a frame that has begun and may be written"
+    # "the awaited line still belongs to a frame that has begun, and the walk takes one more"
     is_refused = tape.number or judge.walk_refusal(tape.walk)
-    return 0 if is_refused else ends_frame(tape.walk)
+    return 0 if is_refused else ends_frame(tape.walk, tape.fall)

@@ -1,17 +1,18 @@
-"""Wrong models of packets, each an error that a builder is drawn to: the cases must notice them."""
+"""Wrong models of packets and of V's fall, errors one is drawn to: the cases must notice them."""
 
 from functools import lru_cache
 from itertools import chain, cycle
 from unittest.mock import patch
 
-from independent import caption_cases, captions, command, judge, kinds, packet_cases, packets
-from independent import programme, ready_cases, tapes
+from independent import camera_cases, caption_cases, captions, command, fall_cases, judge, kinds
+from independent import packet_cases, packets, programme, ready_cases, tapes
 from independent.captions import HEAD
 from independent.cases import cases
 from independent.command import Extracting
 from independent.compare import SEED
+from independent.edges import FALLS
 from independent.entries import Entries
-from independent.judge import PacketWords
+from independent.judge import TABLE_FALL, PacketWords
 from independent.material import Choice, Source
 from independent.packets import COUNT, LEAST_WORDS, START, Space
 from independent.programme import Recorder
@@ -43,6 +44,28 @@ COMMAND_FAMILIES = (
     caption_cases.captions_into,
 )
 
+# The same of V's fall.
+FALL_FAMILIES = (
+    fall_cases.either_v,
+    fall_cases.either_v_of_625,
+    fall_cases.one_bit_inverted,
+    fall_cases.another_code,
+    fall_cases.falls_by_number,
+    fall_cases.due_by_words,
+    fall_cases.written_by_fall,
+    fall_cases.tapes_by_fall,
+    ready_cases.refusals_at_once,
+)
+CAMERA_FAMILIES = (
+    camera_cases.recorded_falls,
+    camera_cases.falls_of_625,
+    camera_cases.falls_refused,
+    camera_cases.read_falls,
+)
+
+# How many cases of each family are tried.
+FEW = Choice(first=20, step=7)
+
 # The right functions, of which the wrong ones make use.
 CHECKSUM, FILL_FAULT, JUDGE_SPACE = packets.checksum, packets.fill_fault, packets.judge_space
 READY_FAULT, SPACES = packets.ready_fault, judge.spaces
@@ -50,6 +73,8 @@ READY_REFUSAL, RECORD_REFUSAL = judge.ready_refusal, tapes.record_refusal
 IS_ENTRY, READY_FOR, END_FRAME = captions.is_entry, Entries.ready_for, Recorder.end_frame
 BEGIN_PIECE, PUT_ENTRIES = Recorder.begin_piece, Recorder.put_entries
 WRITE_PICTURE, WRITE_PACKETS = Extracting.write_picture, Extracting.write_packets
+MOVED, REFUSED, VS_DUE, IS_FALL = judge.moved, judge.refused, judge.vs_due, judge.is_fall
+DUE_WRITTEN, TURNED, BEGIN = tapes.due_written, tapes.turned, programme.begin
 
 
 def eight_bit_checksum(words):
@@ -156,10 +181,10 @@ def active_length_first(due, *ready):
     return None
 
 
-def packets_before_row(walk, row, between, active, line):
-    refusal = judge.walk_refusal(walk) or judge.bytes_refusal(walk.system, line)
-    refusal = refusal or READY_REFUSAL(tapes.due_written(walk), between, active)
-    return refusal or RECORD_REFUSAL(walk, row, between, active, line)
+def packets_before_row(walk, fall, row, between, active, line):
+    refusal = tapes.written_walk_refusal(walk, fall) or judge.bytes_refusal(walk.system, line)
+    refusal = refusal or READY_REFUSAL(tapes.due_written(walk, fall), between, active)
+    return refusal or RECORD_REFUSAL(walk, fall, row, between, active, line)
 
 
 # What is wrong, and the function of the model that is replaced.
@@ -262,10 +287,112 @@ WRONG_COMMANDS = (
 )
 
 
+def looked_at_first(walk):
+    return (0,) if walk.fallen and 0 in VS_DUE(walk) else VS_DUE(walk)
+
+
+def never_looked_at(walk):
+    return VS_DUE(walk._replace(fallen=0))
+
+
+def one_is_yes(walk):
+    return VS_DUE(walk._replace(fallen=int(walk.fallen == 1)))
+
+
+def looked_at_late(walk):
+    return VS_DUE(walk) if walk.fallen or walk.line not in (20, 283) else (0, 1)
+
+
+def due_by_sav(walk, words):
+    _, sav = judge.fourth_offsets(walk.system)
+    return judge.walk_due(walk, words[sav])
+
+
+def v_as_read(fourth):
+    return fourth >> 7 & 1
+
+
+def moved_by_f(walk, due, report):
+    return MOVED(walk, due, report)._replace(fallen=1 - due.f)
+
+
+def moved_by_table(walk, due, report):
+    return MOVED(walk, due, report)._replace(fallen=1 - judge.table_v(due.system, walk.line))
+
+
+def moved_for_good(walk, due, report):
+    return MOVED(walk, due, report)._replace(fallen=walk.fallen or 1 - due.v)
+
+
+def refused_fresh(walk, number, place):
+    return REFUSED(walk._replace(fallen=0), number, place)
+
+
+def refused_as_bit(walk, number, place):
+    return REFUSED(walk._replace(fallen=int(walk.fallen > 0)), number, place)
+
+
+def recorded_by_record(walk, fall):
+    due = DUE_WRITTEN(walk, fall)
+    return due._replace(v=0) if walk.fallen and 0 in VS_DUE(walk) else due
+
+
+def counts_before_fall(walk, fall):
+    return judge.walk_refusal(walk) or judge.numbers_refusal(*walk[:2], fall)
+
+
+WRONG_FALLS = (
+    ("the record is looked at on line 10", judge, "vs_due", looked_at_first),
+    ("the record is looked at on line 20", judge, "vs_due", looked_at_late),
+    ("V may rise again", judge, "vs_due", never_looked_at),
+    ("only 1 is yes", judge, "vs_due", one_is_yes),
+    ("the SAV's V decides", judge, "due_in", due_by_sav),
+    ("the V that is read decides", judge, "v_told", v_as_read),
+    ("the record is of F", judge, "moved", moved_by_f),
+    ("the record is of the table's V", judge, "moved", moved_by_table),
+    ("the record stays yes", judge, "moved", moved_for_good),
+    ("a refusal forgets the record", judge, "refused", refused_fresh),
+    ("a refusal hands back 1 for yes", judge, "refused", refused_as_bit),
+    ("V may fall at line 21", judge, "is_fall", lambda *told: IS_FALL(*told) or told[1] == 21),
+    ("V may fall at line 9", judge, "is_fall", lambda *told: IS_FALL(*told) or told[1] == 9),
+    ("625 looks at the fall line", judge, "is_fall", lambda system, fall: fall in FALLS),
+    ("the second field falls 262 lines later", judge, "SECOND_FALL", 262),
+    ("lines are written by the record", tapes, "due_written", recorded_by_record),
+    ("4 comes before the fall line", tapes, "written_walk_refusal", counts_before_fall),
+)
+
+
+def rows_by_table(walk, data):
+    return not judge.due_of(walk.system, walk.line).v
+
+
+def turned_to_table(tape):
+    return TURNED(tape)._replace(fall=TABLE_FALL)
+
+
+def begun_fallen(data):
+    run = BEGIN(data)
+    return run._replace(walk=run.walk._replace(fallen=1))
+
+
+def table_rows_text(system, fall):
+    return "a frame of 525 has 487 rows, one of 625 has 576"
+
+
+WRONG_CAMERAS = (
+    ("rows go by the table", tapes, "holds_row", rows_by_table),
+    ("a next recording has no fall line", programme, "turned", turned_to_table),
+    ("a recording begins after V = 0", programme, "begin", begun_fallen),
+    ("a frame has as many rows by any fall line", command, "frame_rows_text", table_rows_text),
+    ("625 looks at the fall line", judge, "is_fall", lambda system, fall: fall in FALLS),
+    ("V may fall at line 21", judge, "is_fall", lambda *told: IS_FALL(*told) or told[1] == 21),
+)
+
+
 @lru_cache(maxsize=None)
-def right_answers():
-    """Some cases of these families, and the answers that are due."""
-    chosen = cases(SEED, kinds.KINDS, Choice(first=20, step=7), FAMILIES)
+def right_answers(families, choice):
+    """Some cases of families, and the answers that are due."""
+    chosen = cases(SEED, kinds.KINDS, choice, families)
     return [(case, kinds.answer_parts(case)) for case in chosen]
 
 
@@ -275,10 +402,10 @@ def question(words, data=b"", files={}, way=None):
 
 
 @lru_cache(maxsize=None)
-def right_commands():
-    """What cases of these families ask the command, and the answers that are due."""
-    with patch.object(caption_cases, "case_of", question):
-        chosen = [family(Source(SEED, family.__name__)) for family in COMMAND_FAMILIES]
+def right_commands(module, families):
+    """What cases of a module's families ask the command, and the answers that are due."""
+    with patch.object(module, "case_of", question):
+        chosen = [family(Source(SEED, family.__name__)) for family in families]
         questions = list(chain.from_iterable(chosen))
     return [(asked, command.answer(*asked)) for asked in questions]
 
@@ -289,17 +416,38 @@ def is_noticed(answers, answer, module, name, wrong):
         return any(answer(asked) != due for asked, due in answers)
 
 
-def wrong_models():
-    for sentence, *replaced in WRONG_MODELS:
-        yield sentence, is_noticed(right_answers(), kinds.answer_parts, *replaced), True
+def noticed_answers(wrong, families, choice=FEW):
+    """Whether each wrong model is noticed by cases of families."""
+    answers = right_answers(families, choice)
+    for sentence, *replaced in wrong:
+        yield sentence, is_noticed(answers, kinds.answer_parts, *replaced), True
 
 
-def wrong_commands():
+def noticed_commands(wrong, module, families):
+    """Whether each wrong model is noticed by what cases of families ask the command."""
+
     def answer(asked):
         return command.answer(*asked)
 
-    for sentence, *replaced in WRONG_COMMANDS:
-        yield sentence, is_noticed(right_commands(), answer, *replaced), True
+    answers = right_commands(module, families)
+    for sentence, *replaced in wrong:
+        yield sentence, is_noticed(answers, answer, *replaced), True
 
 
-GROUPS = (wrong_models, wrong_commands)
+def wrong_models():
+    return noticed_answers(WRONG_MODELS, FAMILIES)
+
+
+def wrong_commands():
+    return noticed_commands(WRONG_COMMANDS, caption_cases, COMMAND_FAMILIES)
+
+
+def wrong_falls():
+    return noticed_answers(WRONG_FALLS, FALL_FAMILIES)
+
+
+def wrong_cameras():
+    return noticed_commands(WRONG_CAMERAS, camera_cases, CAMERA_FAMILIES)
+
+
+GROUPS = (wrong_models, wrong_commands, wrong_falls, wrong_cameras)

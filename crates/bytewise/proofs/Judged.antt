@@ -20,7 +20,7 @@ use Rattle.system.specs.declared.walk.Walk.{Walk}
 use Rattle.system.specs.declared.walk.Judgement.{Judgement}
 use Rattle.system.specs.declared.walk.PacketWords.{PacketWords}
 use Rattle.system.specs.Figures.{savOffset, lineLength, systemOf}
-use Rattle.system.specs.Due.{dueOf}
+use Rattle.system.specs.Due.{dueWith}
 use Rattle.system.specs.Walk.{walkRefusal, standingRefusal, advancedOf, lineBytes, dueBy, dueIn}
 use Rattle.system.specs.Judgement.{refusedAt, movedAt}
 use Rattle.system.proofs.Laws.{Good, accepted-good, line-is-parts, due-system, standing-walk, standing-length, accepted-stood}
@@ -35,7 +35,7 @@ use Rattle.bytewise.proofs.Parts.{same-faults, same-packets}
 
 -- fill is of ten bits at every walk
 proper : (w : Walk) (fourth : ℕ) → Proper (dueBy w fourth .fill)
-unfolding dueBy dueOf
+unfolding dueBy dueWith
 proper w fourth = record { even = omega arith; odd = omega arith }
 
 module _ (w : Walk) (bytes : List ℕ) where

@@ -14,7 +14,7 @@ use Rattle.timing.proofs.Laws.{Bounded, bounded}
 use Rattle.capture.specs.Answer.{inOneNumber, correctedOf, correctAnswer}
 
 -- the answer to a correction
-abbrev answerTo : Correction → ℕ
+abbrev pub answerTo : Correction → ℕ
 answerTo c = inOneNumber (refusalOf c) (correctedOf c)
 
 module _ (word : ℕ) where

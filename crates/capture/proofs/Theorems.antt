@@ -1,14 +1,18 @@
 -- The promises on the calls from C, of the definitions that their contracts cite. Assumes nothing.
 use Prim.Native.Nat.{ℕ, _+_, _*_, _/_, _%_, _<_, _≤_}
-use mathlib.Core.Path.{_≡_, refl, sym, subst, _∙_}
+use mathlib.Core.Path.{_≡_, refl, sym, ap, subst, _∙_}
 use mathlib.Core.Bool.{cond}
 use mathlib.Core.List.{List}
 use native.Mathlib.Omega.{arith}
 use lib.Dec.{eqb}
+use lib.ListN.{length}
 use borrow.Author.Tests.{eq-eqb, eqb-true, eqb-false}
 use Rattle.refusal.specs.declared.Refusal.{Refusal}
 use Rattle.refusal.specs.Table.{Keeps}
 use Rattle.refusal.proofs.Cases.{by-test}
+use Rattle.refusal.proofs.Firsts.{same-number}
+use Rattle.words.specs.Bytes.{wordOfBytes, wordsOf}
+use Rattle.words.proofs.Bytes.{words-length, word-at}
 use Rattle.timing.specs.declared.Correction.{Correction}
 use Rattle.timing.specs.declared.Correction.the-variants.{Clean, Repaired, Refused}
 use Rattle.timing.specs.Code.{correctionOf}
@@ -17,11 +21,17 @@ use Rattle.timing.proofs.Laws.{Bounded, bounded, fourth-below, one-repair}
 use Rattle.timing.proofs.Theorems.{correction-exact}
 use Rattle.timing.specs.Report.{repairsOf}
 use Rattle.system.specs.declared.walk.Walk.{Walk}
+use Rattle.system.specs.declared.walk.Judgement.{Judgement}
+use Rattle.system.specs.Figures.{lineLength, systemOf}
+use Rattle.system.specs.Walk.{lineWords, lineBytes, dueIn, advancedOf}
+use Rattle.system.proofs.Laws.{due-system, line-is-parts}
+use Rattle.reader.proofs.Judged.{accepted}
 use Rattle.bytewise.specs.Bytes.{judgedBytes}
 use Rattle.bytewise.specs.Refusals.{bytesRefusals}
-use Rattle.bytewise.proofs.Theorems.{bytes-exact, bytes-number}
-use Rattle.capture.specs.Answer.{inOneNumber, correctedOf, correctAnswer, judgeAnswer, toldBy}
+use Rattle.bytewise.proofs.Theorems.{bytes-exact, bytes-number, bytes-accepted-advances}
+use Rattle.capture.specs.Answer.{inOneNumber, correctedOf, correctAnswer, judgeAnswer, fallenIn, toldBy}
 use Rattle.capture.proofs.Bounds.{Small, small-bytes, repairs-low}
+use Rattle.capture.proofs.Kept.{kept}
 
 -- An answer below 65,536 is no refusal, and any other tells the refusal's number and place.
 pub answer-tells : (r : Refusal) (accepted : ℕ) → accepted < 65536 → r .place < 65536 → (r .number ≡ 0 → r .place ≡ 0)
@@ -75,6 +85,19 @@ pub capture-judge-most : (w : Walk) (bytes : List ℕ) → judgedBytes w bytes .
 capture-judge-most w bytes e =
     let report = judgedBytes w bytes .report in
     omega (arith, capture-judge-repairs w bytes e, one-repair (report .eav), one-repair (report .sav))
+
+-- What the header has a caller keep of an accepted line, by bytes 6 and 7, is the record of the walk behind it.
+pub capture-judge-record : (w : Walk) (bytes : List ℕ) → judgedBytes w bytes .number ≡ 0
+    → judgedBytes w bytes .walk .fallen ≡ fallenIn (correctAnswer (wordOfBytes bytes 6))
+unfolding advancedOf
+capture-judge-record w bytes e =
+    let z = sym (same-number (bytes-number w bytes)) ∙ e in
+    let stood = accepted (length bytes) (lineBytes w) w (wordsOf bytes) z in
+    let d = dueIn w (wordsOf bytes) in
+    let size = words-length bytes (lineWords w) (stood .size) in
+    ap (λ (j : Judgement). j .walk .fallen) (bytes-accepted-advances w bytes z)
+    ∙ sym (kept d (wordsOf bytes) (size ∙ ap lineLength (sym (due-system w _))) (stood .well))
+    ∙ ap (λ (word : ℕ). fallenIn (correctAnswer word)) (word-at bytes (lineWords w) (stood .size) 3 (omega (arith, line-is-parts (systemOf (w .system)))))
 
 -- Two results allowed for one line are the same.
 pub capture-judge-one-result : (w : Walk) (bytes : List ℕ) (r s : ℕ) → r ≡ judgeAnswer w bytes → s ≡ judgeAnswer w bytes → r ≡ s

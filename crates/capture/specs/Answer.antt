@@ -31,6 +31,10 @@ unfoldable pub judgeAnswer : Walk → List ℕ → ℕ
 judgeAnswer w bytes =
     inOneNumber (record { number = judgedBytes w bytes .number; place = judgedBytes w bytes .place }) (repairsOf (judgedBytes w bytes .report))
 
+-- Document 02, L1, "The byte judge takes the record": what a caller keeps of an accepted line, whether V is 0 in bit 7 of the answer to its EAV
+abbrev pub fallenIn : ℕ → ℕ
+fallenIn answer = cond (eqb (answer / 128 % 2) 0) 1 0
+
 -- the refusal that an answer tells: below 65,536 it is none
 abbrev pub toldBy : ℕ → Refusal
 toldBy answer = record { number = answer / 65536; place = cond (eqb (answer / 65536) 0) 0 (answer % 65536) }

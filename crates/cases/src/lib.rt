@@ -7,6 +7,7 @@ pub use answer::put_bytes;
 pub use answer::put_numbers;
 pub use answer::put_words;
 pub use numbers::Numbers;
+pub use payload::WALK;
 pub use payload::after_bytes;
 pub use payload::after_words;
 pub use payload::count;

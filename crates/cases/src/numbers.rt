@@ -80,6 +80,7 @@ impl Numbers {
             .with(walk.line)
             .with(walk.lines)
             .with(walk.repairs)
+            .with(walk.fallen)
     }
 
     // Whether a code was repaired, and the bit.

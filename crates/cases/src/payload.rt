@@ -50,13 +50,17 @@ fn next(payload: &[u8], at: usize, numbers: u8) -> u32 {
     number(payload, wrapping_add_usize(at, 4 * (numbers as usize)))
 }
 
-// The walk that four numbers tell.
+// The bytes of the numbers that tell a walk.
+pub const WALK: usize = 20;
+
+// The walk that five numbers tell.
 pub fn walk(payload: &[u8], at: usize) -> Walk {
     Walk::of(
         number(payload, at),
         next(payload, at, 1),
         next(payload, at, 2),
         next(payload, at, 3),
+        next(payload, at, 4),
     )
 }
 

@@ -1,6 +1,7 @@
 // What is due: the crates system and line.
 use crate::systems::system_number;
 use cases::Numbers;
+use cases::WALK;
 use cases::number;
 use cases::wide;
 use line::What;
@@ -63,11 +64,11 @@ pub(crate) fn due(payload: &[u8]) -> Due {
 // What is due, as the five numbers behind a walk tell it.
 pub(crate) fn due_behind(payload: &[u8]) -> Due {
     told(
-        number(payload, 16),
-        number(payload, 20),
-        number(payload, 24),
-        number(payload, 28),
-        number(payload, 32),
+        number(payload, WALK),
+        number(payload, WALK + 4),
+        number(payload, WALK + 8),
+        number(payload, WALK + 12),
+        number(payload, WALK + 16),
     )
 }
 
@@ -78,7 +79,7 @@ pub(crate) fn place(payload: &[u8], at: usize) -> usize {
 // Due::of.
 fn of(payload: &[u8]) -> Numbers {
     let system = system::system_of(number(payload, 0));
-    of_due(Due::of(system, number(payload, 4)))
+    of_due(Due::of(system, number(payload, 4), number(payload, 8)))
 }
 
 // Due::flags.
@@ -104,7 +105,7 @@ fn buffer_refusal(payload: &[u8]) -> Numbers {
 
 // Walk::due.
 pub(crate) fn at_walk(walk: Walk, payload: &[u8]) -> Numbers {
-    of_due(walk.due(low_word(number(payload, 16))))
+    of_due(walk.due(low_word(number(payload, WALK))))
 }
 
 pub(crate) fn answered(kind: u32, payload: &[u8]) -> Numbers {

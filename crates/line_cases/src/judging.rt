@@ -2,6 +2,7 @@
 use cases::MOST_BYTES;
 use cases::MOST_WORDS;
 use cases::Numbers;
+use cases::WALK;
 use cases::after_bytes;
 use cases::after_words;
 use cases::part;
@@ -46,35 +47,45 @@ pub(crate) fn first_over(payload: &[u8]) -> Numbers {
 // reader::judge.
 pub(crate) fn judge(payload: &[u8]) -> Numbers {
     let mut words = [0u16; MOST_WORDS];
-    if after_words(payload, MOST_WORDS, 16, 20) != payload.len() {
+    if after_words(payload, MOST_WORDS, WALK, WALK + 4) != payload.len() {
         return Numbers::none();
     }
-    judged(walk(payload, 0), taken_words(payload, 16, 20, &mut words))
+    judged(
+        walk(payload, 0),
+        taken_words(payload, WALK, WALK + 4, &mut words),
+    )
 }
 
 // A part of a line, by its kind.
 pub(crate) fn lend(kind: u32, payload: &[u8], answer: &mut [u8]) -> usize {
     let mut words = [0u16; MOST_WORDS];
-    if after_words(payload, MOST_WORDS, 16, 20) != payload.len() {
+    if after_words(payload, MOST_WORDS, WALK, WALK + 4) != payload.len() {
         return 0;
     }
     put_lent(
         answer,
         kind,
         walk(payload, 0),
-        taken_words(payload, 16, 20, &mut words),
+        taken_words(payload, WALK, WALK + 4, &mut words),
     )
 }
 
 fn judged_in_c(walk: Walk, bytes: &[u8]) -> u32 {
-    capture::fiskrogn_judge(walk.system, walk.line, walk.lines, walk.repairs, bytes)
+    capture::fiskrogn_judge(
+        walk.system,
+        walk.line,
+        walk.lines,
+        walk.repairs,
+        walk.fallen,
+        bytes,
+    )
 }
 
 // capture::fiskrogn_judge.
 pub(crate) fn capture_judge(payload: &[u8]) -> Numbers {
-    let end = after_bytes(payload, MOST_BYTES, 16, 20);
+    let end = after_bytes(payload, MOST_BYTES, WALK, WALK + 4);
     if payload.len() != end {
         return Numbers::none();
     }
-    Numbers::one(judged_in_c(walk(payload, 0), part(payload, 20, end)))
+    Numbers::one(judged_in_c(walk(payload, 0), part(payload, WALK + 4, end)))
 }

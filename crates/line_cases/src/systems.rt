@@ -54,6 +54,15 @@ fn flags(system: System, line: u32) -> Numbers {
         .with(system.next_line(line))
 }
 
+// The calls on the numbers of a line that is to be written: its system's, its own, and that of the line at which V of the first field falls.
+pub(crate) fn written(kind: u32, system: u32, line: u32, fall: u32) -> Numbers {
+    match kind {
+        38 => Numbers::of_refusal(system::written_refusal(system, line, fall)),
+        39 => Numbers::none().with_truth(system::system_of(system).v_written(line, fall)),
+        _ => Numbers::none(),
+    }
+}
+
 pub(crate) fn answered(kind: u32, first: u32, second: u32) -> Numbers {
     match kind {
         2 => of_fresh(system::fresh_walk(first, second)),

@@ -3,6 +3,7 @@ use crate::dues::at_walk;
 use crate::dues::due_behind;
 use crate::dues::place;
 use cases::Numbers;
+use cases::WALK;
 use cases::count;
 use cases::number;
 use cases::report;
@@ -14,8 +15,8 @@ use system::Walk;
 // The refusal behind a walk.
 fn refusal(payload: &[u8]) -> Refusal {
     Refusal {
-        number: number(payload, 16),
-        place: count(payload, 20),
+        number: number(payload, WALK),
+        place: count(payload, WALK + 4),
     }
 }
 
@@ -26,12 +27,12 @@ fn repairs(payload: &[u8]) -> Numbers {
 
 // Walk::standing.
 fn standing(walk: Walk, payload: &[u8]) -> Numbers {
-    Numbers::of_refusal(walk.standing(place(payload, 16), place(payload, 24)))
+    Numbers::of_refusal(walk.standing(place(payload, WALK), place(payload, WALK + 8)))
 }
 
 // Walk::moved.
 fn moved(walk: Walk, payload: &[u8]) -> Numbers {
-    Numbers::none().with_walk(walk.moved(due_behind(payload), report(payload, 36)))
+    Numbers::none().with_walk(walk.moved(due_behind(payload), report(payload, WALK + 20)))
 }
 
 // Judgement::refused.
@@ -42,15 +43,15 @@ fn refused(walk: Walk, payload: &[u8]) -> Numbers {
 // The words of packets behind a walk, what is due and a report.
 fn packets(payload: &[u8]) -> PacketWords {
     PacketWords {
-        between: count(payload, 52),
-        active: count(payload, 56),
+        between: count(payload, WALK + 36),
+        active: count(payload, WALK + 40),
     }
 }
 
 // Judgement::accepted.
 fn accepted(walk: Walk, payload: &[u8]) -> Numbers {
     let due = due_behind(payload);
-    let judgement = Judgement::accepted(walk, due, report(payload, 36), packets(payload));
+    let judgement = Judgement::accepted(walk, due, report(payload, WALK + 20), packets(payload));
     Numbers::of_judgement(judgement)
 }
 

@@ -23,8 +23,10 @@ fn written(
     if kind == 43 {
         return writer::write_line(due(payload), y, cb, cr, between, active, words);
     }
+    let system = number(payload, 0);
     let line = number(payload, 4);
-    writer::write(number(payload, 0), line, y, cb, cr, between, active, words)
+    let fall = number(payload, 8);
+    writer::write(system, line, fall, y, cb, cr, between, active, words)
 }
 
 fn put_written(

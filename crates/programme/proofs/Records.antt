@@ -21,11 +21,11 @@ use Rattle.words.proofs.Tabs.{same-tab}
 use Rattle.timing.specs.Report.{cleanReport}
 use Rattle.system.specs.declared.due.Due.{Due}
 use Rattle.system.specs.declared.walk.Walk.{Walk}
-use Rattle.system.specs.Figures.{lineLength, activeOffset}
-use Rattle.system.specs.Due.{dueOf}
-use Rattle.system.specs.Walk.{walkRefusal, lineWords, lineBytes, standingRefusal}
+use Rattle.system.specs.Figures.{lineLength, activeOffset, systemOf, isFall}
+use Rattle.system.specs.Due.{dueWith, dueOf}
+use Rattle.system.specs.Walk.{writtenRefusal, walkRefusal, lineWords, lineBytes}
 use Rattle.system.specs.Judgement.{refusedAt, acceptedAt, movedAt}
-use Rattle.system.proofs.Laws.{accepted-good, moved-advanced, judgement-accepted, judgement-refused}
+use Rattle.system.proofs.Laws.{accepted-good, written-named, accepted-written, accepted-stood, standing-accepted, moved-advanced, judgement-accepted, judgement-refused}
 use Rattle.words.specs.Words.{leastSample, mostSample}
 use Rattle.line.specs.Fault.{betweenOffset}
 use Rattle.line.specs.Samples.{Samples, Packets, Content, activeLength, sampleAt, wordWhere, laidAt, writtenAt, lineOf, partSamples}
@@ -39,16 +39,16 @@ use Rattle.writer.proofs.Theorems.{packets-exact}
 use Rattle.writer.proofs.Places.{samples-blank, samples-picture}
 use Rattle.v210.specs.Row.{rowLength, rowWords, rowWord, mostRowWord, spareAt, unpackedOf, spareRefusal, unpackRefusal}
 use Rattle.v210.proofs.Refusals.{unpack-measured}
-use Rattle.programme.specs.Record.{dueAtWalk, takesRow, rowSamples, rowContent, readyCounts, unpackedRefusal, rowRefusal, recordRefusal, recordedOf, lineBytesOf, lineBytesAfter}
+use Rattle.programme.specs.Record.{dueAtWalk, takesRow, rowSamples, rowContent, readyCounts, unpackedRefusal, rowRefusal, recordStanding, recordRefusal, recordedOf, lineBytesOf, lineBytesAfter}
 use Rattle.programme.specs.Refusals.{rowRefusals}
 
 -- ---- A line takes a row exactly where its V is 0.
-module _ (w : Walk) where
-  pub takes-picture : takesRow w ≡ true → dueAtWalk w .v ≡ false
+module _ (fall : ℕ) (w : Walk) where
+  pub takes-picture : takesRow fall w ≡ true → dueAtWalk fall w .v ≡ false
   unfolding takesRow
   takes-picture t = not-true _ t
 
-  pub takes-blank : takesRow w ≡ false → dueAtWalk w .v ≡ true
+  pub takes-blank : takesRow fall w ≡ false → dueAtWalk fall w .v ≡ true
   unfolding takesRow
   takes-blank f = not-false _ f
 
@@ -64,9 +64,9 @@ blank-any d p q k v =
     (by-due d (λ x. wordWhere x (sampleAt p (i - activeOffset (d .system))) ≡ wordWhere x (sampleAt q (i - activeOffset (d .system)))) i
     refl refl (λ e. refl) (λ e. refl) refl refl (λ f g. absurd (true≢false (sym v ∙ f)))))
 
-pub line-words : (w : Walk) (c : Content) → length (lineOf (dueAtWalk w) c) ≡ lineWords w
-unfolding dueOf
-line-words w c = line-length (dueAtWalk w) c
+pub line-words : (fall : ℕ) (w : Walk) (c : Content) → length (lineOf (dueAtWalk fall w) c) ≡ lineWords w
+unfolding dueOf dueWith
+line-words fall w c = line-length (dueAtWalk fall w) c
 
 -- ---- What refuses a row.
 module _ (row : List ℕ) where
@@ -91,172 +91,196 @@ module _ (row : List ℕ) where
   unpack-row room long size = unpack-measured row room long size ∙ sym (unpacked-long long)
 
 -- ---- What refuses what a line is to carry, where nothing refuses the walk and the room.
-module _ (w : Walk) (row : List ℕ) (k : Packets) where
+module _ (fall : ℕ) (w : Walk) (row : List ℕ) (k : Packets) where
   -- what the writer refuses
   abbrev pub carriedRefusal : Refusal
-  carriedRefusal = orElse (packetsRefusal (dueAtWalk w) k) (sampleRefusal (dueAtWalk w) (rowSamples row))
+  carriedRefusal = orElse (packetsRefusal (dueAtWalk fall w) k) (sampleRefusal (dueAtWalk fall w) (rowSamples row))
 
-  pub line-blank : takesRow w ≡ false → rowRefusal w row k ≡ carriedRefusal
+  pub line-blank : takesRow fall w ≡ false → rowRefusal fall w row k ≡ carriedRefusal
   unfolding rowRefusal
   line-blank f = ap (λ (t : Bool). orElse (cond t (unpackedRefusal row) none) carriedRefusal) f ∙ orElse-accepted none carriedRefusal refl
 
-  pub line-picture : takesRow w ≡ true → rowRefusal w row k ≡ orElse (unpackedRefusal row) carriedRefusal
+  pub line-picture : takesRow fall w ≡ true → rowRefusal fall w row k ≡ orElse (unpackedRefusal row) carriedRefusal
   unfolding rowRefusal
   line-picture t = ap (λ (s : Bool). orElse (cond s (unpackedRefusal row) none) carriedRefusal) t
 
-  pub line-row : takesRow w ≡ true → (unpackedRefusal row .number ≡ 0 → ⊥) → rowRefusal w row k ≡ unpackedRefusal row
+  pub line-row : takesRow fall w ≡ true → (unpackedRefusal row .number ≡ 0 → ⊥) → rowRefusal fall w row k ≡ unpackedRefusal row
   line-row t n = line-picture t ∙ orElse-refused (unpackedRefusal row) _ n
 
-  pub line-samples : takesRow w ≡ true → unpackedRefusal row .number ≡ 0 → rowRefusal w row k ≡ carriedRefusal
+  pub line-samples : takesRow fall w ≡ true → unpackedRefusal row .number ≡ 0 → rowRefusal fall w row k ≡ carriedRefusal
   line-samples t z = line-picture t ∙ orElse-accepted (unpackedRefusal row) _ z
 
   -- the rows of the table for it
   abbrev lengthRows : Row
-  lengthRows = when ((takesRow w ≡ true) × (length row ≡ rowLength → ⊥)) wrongLength 1
+  lengthRows = when ((takesRow fall w ≡ true) × (length row ≡ rowLength → ⊥)) wrongLength 1
 
   abbrev spareRows : Row
-  spareRows = Lowest rowWords (λ i. when ((takesRow w ≡ true) × (mostRowWord < rowWord row i)) overTen i)
+  spareRows = Lowest rowWords (λ i. when ((takesRow fall w ≡ true) × (mostRowWord < rowWord row i)) overTen i)
 
   abbrev sampleRows : Row
   sampleRows =
       Lowest activeLength
-      (λ place. when ((takesRow w ≡ true) × ((sampleAt (rowSamples row) place < leastSample) ⊎ (mostSample < sampleAt (rowSamples row) place))) outside place)
+      (λ place. when ((takesRow fall w ≡ true) × ((sampleAt (rowSamples row) place < leastSample) ⊎ (mostSample < sampleAt (rowSamples row) place))) outside place)
 
-  module _ (takes : takesRow w ≡ true) where
+  module _ (takes : takesRow fall w ≡ true) where
     length-exact : Keeps lengthRows (refuse (not (eqb (length row) rowLength)) wrongLength 1)
     length-exact =
-        keeps-when (not (eqb (length row) rowLength)) ((takesRow w ≡ true) × (length row ≡ rowLength → ⊥)) wrongLength 1
+        keeps-when (not (eqb (length row) rowLength)) ((takesRow fall w ≡ true) × (length row ≡ rowLength → ⊥)) wrongLength 1
         (λ t. (takes, eqb-false _ _ (not-true _ t))) (λ q. ap not (ne-eqb _ _ (q .1))) (λ z. omega arith)
 
     spare-exact : Keeps spareRows (spareRefusal row)
     unfolding spareRefusal
     spare-exact =
         keeps-lowest _ (spareAt row) rowWords
-        (λ i l. numbers-when (ltb mostRowWord (rowWord row i)) ((takesRow w ≡ true) × (mostRowWord < rowWord row i)) overTen i
+        (λ i l. numbers-when (ltb mostRowWord (rowWord row i)) ((takesRow fall w ≡ true) × (mostRowWord < rowWord row i)) overTen i
         (λ t. (takes, ltb-true _ _ t)) (λ q. lt-ltb _ _ (q .1)) (λ z. omega arith))
 
-    samples-exact : Keeps sampleRows (sampleRefusal (dueAtWalk w) (rowSamples row))
+    samples-exact : Keeps sampleRows (sampleRefusal (dueAtWalk fall w) (rowSamples row))
     samples-exact =
-        rw (samples-picture (rowSamples row) (dueAtWalk w) (takes-picture w takes))
+        rw (samples-picture (rowSamples row) (dueAtWalk fall w) (takes-picture fall w takes))
         (keeps-lowest _ (outsideAt (rowSamples row)) activeLength
         (λ place l. numbers-when (ltb (sampleAt (rowSamples row) place) leastSample || ltb mostSample (sampleAt (rowSamples row) place)) _ outside place
         (λ t. (takes, reserved-test (sampleAt (rowSamples row) place) .0 t)) (λ q. reserved-test (sampleAt (rowSamples row) place) .1 (q .1))
         (λ z. omega arith)))
 
-    picture-exact : Keeps (rowRefusals w row k) (orElse (unpackedRefusal row) carriedRefusal)
+    picture-exact : Keeps (rowRefusals fall w row k) (orElse (unpackedRefusal row) carriedRefusal)
     unfolding unpackedRefusal
     picture-exact =
         let long = refuse (not (eqb (length row) rowLength)) wrongLength 1 in
-        let samples = sampleRefusal (dueAtWalk w) (rowSamples row) in
-        let ready = packetsRefusal (dueAtWalk w) k in
-        subst (Keeps (rowRefusals w row k)) (orElse-grouped long (spareRefusal row) carriedRefusal)
+        let samples = sampleRefusal (dueAtWalk fall w) (rowSamples row) in
+        let ready = packetsRefusal (dueAtWalk fall w) k in
+        subst (Keeps (rowRefusals fall w row k)) (orElse-grouped long (spareRefusal row) carriedRefusal)
         (keeps-before lengthRows _ long _ length-exact
         (keeps-before spareRows _ (spareRefusal row) _ spare-exact
-        (keeps-before (packetsRefusals (dueAtWalk w) k) sampleRows ready samples (packets-exact (dueAtWalk w) k) samples-exact)))
+        (keeps-before (packetsRefusals (dueAtWalk fall w) k) sampleRows ready samples (packets-exact (dueAtWalk fall w) k) samples-exact)))
 
   -- a line that takes no row is refused for its packets alone
-  blank-exact : takesRow w ≡ false → Keeps (rowRefusals w row k) carriedRefusal
+  blank-exact : takesRow fall w ≡ false → Keeps (rowRefusals fall w row k) carriedRefusal
   unfolding orElse
   blank-exact f =
-      let ready = packetsRefusal (dueAtWalk w) k in
-      let samples = sampleRefusal (dueAtWalk w) (rowSamples row) in
+      let ready = packetsRefusal (dueAtWalk fall w) k in
+      let samples = sampleRefusal (dueAtWalk fall w) (rowSamples row) in
       keeps-before lengthRows _ none _ (inr (λ r x. true≢false (sym (x .0 .0) ∙ f), refl))
       (keeps-before spareRows _ none _ (inr (λ r x. true≢false (sym (x .asked .0 .0) ∙ f), refl))
-      (keeps-before (packetsRefusals (dueAtWalk w) k) sampleRows ready samples (packets-exact (dueAtWalk w) k)
-      (inr (λ r x. true≢false (sym (x .asked .0 .0) ∙ f), samples-blank (rowSamples row) (dueAtWalk w) (takes-blank w f)))))
+      (keeps-before (packetsRefusals (dueAtWalk fall w) k) sampleRows ready samples (packets-exact (dueAtWalk fall w) k)
+      (inr (λ r x. true≢false (sym (x .asked .0 .0) ∙ f), samples-blank (rowSamples row) (dueAtWalk fall w) (takes-blank fall w f)))))
 
   -- Each refusal of what a line is to carry comes exactly when its condition holds and none earlier does.
-  pub row-exact : Keeps (rowRefusals w row k) (rowRefusal w row k)
+  pub row-exact : Keeps (rowRefusals fall w row k) (rowRefusal fall w row k)
   row-exact =
-      by-test (takesRow w)
+      by-test (takesRow fall w)
       (λ t. rw (line-picture t) (picture-exact t))
       (λ f. rw (line-blank f) (blank-exact f))
 
 -- ---- What the writer answers for an active part, and the words that it leaves, are the line's.
-module _ (w : Walk) (row : List ℕ) (k : Packets) (d : Due) (is-due : d ≡ dueAtWalk w) (part words : List ℕ) (part-long : length part ≡ activeLength)
+module _ (fall : ℕ) (w : Walk) (row : List ℕ) (k : Packets) (d : Due) (is-due : d ≡ dueAtWalk fall w) (part words : List ℕ) (part-long : length part ≡ activeLength)
     (size : length words ≡ lineWords w) (r : Refusal) (answer : r ≡ partRefusal d part k (length words))
     (after : List ℕ) (written : after ≡ writtenBy r (lineOf d (partContent part k)) words) where
-  only-carried : r ≡ orElse (packetsRefusal (dueAtWalk w) k) (sampleRefusal (dueAtWalk w) (partSamples part))
-  unfolding dueOf
+  only-carried : r ≡ orElse (packetsRefusal (dueAtWalk fall w) k) (sampleRefusal (dueAtWalk fall w) (partSamples part))
+  unfolding dueOf dueWith
   only-carried =
-      answer ∙ ap (λ (x : Due). partRefusal x part k (length words)) is-due ∙ sym (part-carried (dueAtWalk w) part k (length words) size part-long)
+      answer ∙ ap (λ (x : Due). partRefusal x part k (length words)) is-due ∙ sym (part-carried (dueAtWalk fall w) part k (length words) size part-long)
 
-  line-is : r .number ≡ 0 → after ≡ lineOf (dueAtWalk w) (partContent part k)
+  line-is : r .number ≡ 0 → after ≡ lineOf (dueAtWalk fall w) (partContent part k)
   line-is z = written ∙ written-accepted r _ words z ∙ ap (λ (x : Due). lineOf x (partContent part k)) is-due
 
   -- of the row's samples on a line that takes a row
-  pub picture-written : takesRow w ≡ true → unpackedRefusal row .number ≡ 0 → part ≡ unpackedOf row
-      → (r ≡ rowRefusal w row k) × (r .number ≡ 0 → after ≡ lineOf (dueAtWalk w) (rowContent row k))
+  pub picture-written : takesRow fall w ≡ true → unpackedRefusal row .number ≡ 0 → part ≡ unpackedOf row
+      → (r ≡ rowRefusal fall w row k) × (r .number ≡ 0 → after ≡ lineOf (dueAtWalk fall w) (rowContent row k))
   picture-written t clear same = (
-    only-carried ∙ ap (λ (l : List ℕ). orElse (packetsRefusal (dueAtWalk w) k) (sampleRefusal (dueAtWalk w) (partSamples l))) same
-        ∙ sym (line-samples w row k t clear),
-    λ z. line-is z ∙ ap (λ (l : List ℕ). lineOf (dueAtWalk w) (partContent l k)) same,
+    only-carried ∙ ap (λ (l : List ℕ). orElse (packetsRefusal (dueAtWalk fall w) k) (sampleRefusal (dueAtWalk fall w) (partSamples l))) same
+        ∙ sym (line-samples fall w row k t clear),
+    λ z. line-is z ∙ ap (λ (l : List ℕ). lineOf (dueAtWalk fall w) (partContent l k)) same,
   )
 
   -- and of any part on one that takes none
-  pub blank-written : takesRow w ≡ false → (r ≡ rowRefusal w row k) × (r .number ≡ 0 → after ≡ lineOf (dueAtWalk w) (rowContent row k))
+  pub blank-written : takesRow fall w ≡ false → (r ≡ rowRefusal fall w row k) × (r .number ≡ 0 → after ≡ lineOf (dueAtWalk fall w) (rowContent row k))
   blank-written f =
-      let v = takes-blank w f in (
+      let v = takes-blank fall w f in (
         only-carried
-            ∙ ap (orElse (packetsRefusal (dueAtWalk w) k))
-            (samples-blank (partSamples part) (dueAtWalk w) v ∙ sym (samples-blank (rowSamples row) (dueAtWalk w) v))
-            ∙ sym (line-blank w row k f),
-        λ z. line-is z ∙ blank-any (dueAtWalk w) (partSamples part) (rowSamples row) k v,
+            ∙ ap (orElse (packetsRefusal (dueAtWalk fall w) k))
+            (samples-blank (partSamples part) (dueAtWalk fall w) v ∙ sym (samples-blank (rowSamples row) (dueAtWalk fall w) v))
+            ∙ sym (line-blank fall w row k f),
+        λ z. line-is z ∙ blank-any (dueAtWalk fall w) (partSamples part) (rowSamples row) k v,
       )
 
--- ---- The refusal that has its turn.
-module _ (w : Walk) (row : List ℕ) (k : Packets) (room : ℕ) where
-  abbrev standing : Refusal
-  standing = standingRefusal w room (lineBytes w)
+-- ---- Nothing refuses before the line is to carry anything.
+pub stands-accepted : (fall : ℕ) (w : Walk) (room : ℕ) → walkRefusal w .number ≡ 0 → isFall (systemOf (w .system)) fall ≡ true → room ≡ lineBytes w
+    → recordStanding fall w room .number ≡ 0
+unfolding recordStanding
+stands-accepted fall w room stands falls size =
+    let good = accepted-good w stands in
+    same-number
+    (orElse-accepted (writtenRefusal (w .system) (w .line) fall) _
+    (same-number (written-named (w .system) (w .line) fall (record { a-system = good .system; a-line = good .line; a-fall = falls })))
+    ∙ standing-accepted w room (lineBytes w) stands size)
 
-  pub record-standing : (standing .number ≡ 0 → ⊥) → recordRefusal w row k room ≡ standing
+-- what it lets by
+pub record Standing (fall : ℕ) (w : Walk) (room : ℕ) : Type 0 where
+  pub walk : walkRefusal w .number ≡ 0
+  pub falls : isFall (systemOf (w .system)) fall ≡ true
+  pub size : room ≡ lineBytes w
+
+pub accepted-stands : (fall : ℕ) (w : Walk) (room : ℕ) → recordStanding fall w room .number ≡ 0 → Standing fall w room
+unfolding recordStanding
+accepted-stands fall w room e =
+    let both = orElse-none (writtenRefusal (w .system) (w .line) fall) _ e in
+    let stood = accepted-stood w room (lineBytes w) (both .1) in
+    record { walk = stood .walk; falls = accepted-written (w .system) (w .line) fall (both .0) .a-fall; size = stood .size }
+
+-- ---- The refusal that has its turn.
+module _ (fall : ℕ) (w : Walk) (row : List ℕ) (k : Packets) (room : ℕ) where
+  abbrev standing : Refusal
+  standing = recordStanding fall w room
+
+  pub record-standing : (standing .number ≡ 0 → ⊥) → recordRefusal fall w row k room ≡ standing
   unfolding recordRefusal
   record-standing n = orElse-refused standing _ n
 
-  pub record-row : standing .number ≡ 0 → recordRefusal w row k room ≡ rowRefusal w row k
+  pub record-row : standing .number ≡ 0 → recordRefusal fall w row k room ≡ rowRefusal fall w row k
   unfolding recordRefusal
   record-row z = orElse-accepted standing _ z
 
   -- ---- The whole answer.
-  pub recorded-refused : (recordRefusal w row k room .number ≡ 0 → ⊥) → recordedOf w row k room ≡ refusedAt w (recordRefusal w row k room)
+  pub recorded-refused : (recordRefusal fall w row k room .number ≡ 0 → ⊥) → recordedOf fall w row k room ≡ refusedAt w (recordRefusal fall w row k room)
   unfolding recordedOf
-  recorded-refused n = judgement-refused (recordRefusal w row k room) w _ _ _ n
+  recorded-refused n = judgement-refused (recordRefusal fall w row k room) w _ _ _ n
 
-  pub recorded-as : (r : Refusal) → recordRefusal w row k room ≡ r → (r .number ≡ 0 → ⊥) → recordedOf w row k room ≡ refusedAt w r
+  pub recorded-as : (r : Refusal) → recordRefusal fall w row k room ≡ r → (r .number ≡ 0 → ⊥) → recordedOf fall w row k room ≡ refusedAt w r
   recorded-as r e n = recorded-refused (λ z. n (same-number (sym e) ∙ z)) ∙ ap (refusedAt w) e
 
-  pub recorded-accepted : recordRefusal w row k room .number ≡ 0 → recordedOf w row k room ≡ acceptedAt w (dueAtWalk w) cleanReport (readyCounts k)
+  pub recorded-accepted : recordRefusal fall w row k room .number ≡ 0 → recordedOf fall w row k room ≡ acceptedAt w (dueAtWalk fall w) cleanReport (readyCounts k)
   unfolding recordedOf
-  recorded-accepted e = judgement-accepted (recordRefusal w row k room) w _ _ _ e
+  recorded-accepted e = judgement-accepted (recordRefusal fall w row k room) w _ _ _ e
 
   -- an accepted line moves the walk as its own advance does
-  pub moved-recorded : walkRefusal w .number ≡ 0 → recordRefusal w row k room .number ≡ 0 → movedAt w (dueAtWalk w) cleanReport (readyCounts k) ≡ recordedOf w row k room
+  pub moved-recorded : walkRefusal w .number ≡ 0 → recordRefusal fall w row k room .number ≡ 0 → movedAt w (dueAtWalk fall w) cleanReport (readyCounts k) ≡ recordedOf fall w row k room
   moved-recorded stands z =
-      ap (λ (next : Walk). record { number = 0; place = 0; report = cleanReport; walk = next; packets = readyCounts k }) (moved-advanced w (dueAtWalk w) cleanReport (accepted-good w stands))
+      ap (λ (next : Walk). record { number = 0; place = 0; report = cleanReport; walk = next; packets = readyCounts k }) (moved-advanced w (dueAtWalk fall w) cleanReport (accepted-good w stands))
       ∙ sym (recorded-accepted z)
 
 -- ---- The line's bytes afterwards.
-module _ (w : Walk) (row : List ℕ) (k : Packets) (held : List ℕ) where
-  pub bytes-refused : (recordRefusal w row k (length held) .number ≡ 0 → ⊥) → lineBytesAfter w row k held ≡ held
+module _ (fall : ℕ) (w : Walk) (row : List ℕ) (k : Packets) (held : List ℕ) where
+  pub bytes-refused : (recordRefusal fall w row k (length held) .number ≡ 0 → ⊥) → lineBytesAfter fall w row k held ≡ held
   unfolding lineBytesAfter
-  bytes-refused n = written-refused (recordRefusal w row k (length held)) _ held n
+  bytes-refused n = written-refused (recordRefusal fall w row k (length held)) _ held n
 
-  pub bytes-refused-as : (r : Refusal) → recordRefusal w row k (length held) ≡ r → (r .number ≡ 0 → ⊥) → lineBytesAfter w row k held ≡ held
+  pub bytes-refused-as : (r : Refusal) → recordRefusal fall w row k (length held) ≡ r → (r .number ≡ 0 → ⊥) → lineBytesAfter fall w row k held ≡ held
   bytes-refused-as r e n = bytes-refused (λ z. n (same-number (sym e) ∙ z))
 
-  pub bytes-accepted : recordRefusal w row k (length held) .number ≡ 0 → lineBytesAfter w row k held ≡ lineBytesOf w row k
+  pub bytes-accepted : recordRefusal fall w row k (length held) .number ≡ 0 → lineBytesAfter fall w row k held ≡ lineBytesOf fall w row k
   unfolding lineBytesAfter
-  bytes-accepted e = written-accepted (recordRefusal w row k (length held)) _ held e
+  bytes-accepted e = written-accepted (recordRefusal fall w row k (length held)) _ held e
 
 -- a line's words as bytes, where there is room for them
-pub line-bytes-filled : (w : Walk) (row : List ℕ) (k : Packets) (held words after : List ℕ) (r : Refusal) → length held ≡ lineBytes w
-    → words ≡ lineOf (dueAtWalk w) (rowContent row k) → r ≡ pairsRefusal (length held) (length words) → after ≡ writtenBy r (bytesOf words) held
-    → recordRefusal w row k (length held) .number ≡ 0 → after ≡ lineBytesAfter w row k held
+pub line-bytes-filled : (fall : ℕ) (w : Walk) (row : List ℕ) (k : Packets) (held words after : List ℕ) (r : Refusal) → length held ≡ lineBytes w
+    → words ≡ lineOf (dueAtWalk fall w) (rowContent row k) → r ≡ pairsRefusal (length held) (length words) → after ≡ writtenBy r (bytesOf words) held
+    → recordRefusal fall w row k (length held) .number ≡ 0 → after ≡ lineBytesAfter fall w row k held
 unfolding lineBytesOf
-line-bytes-filled w row k held words after r size is answer filled z =
-    let words-long = ap length is ∙ line-words w (rowContent row k) in
+line-bytes-filled fall w row k held words after r size is answer filled z =
+    let words-long = ap length is ∙ line-words fall w (rowContent row k) in
     let twice = size ∙ ap (λ (n : ℕ). 2 * n) (sym words-long) in
     filled
     ∙ written-accepted r (bytesOf words) held (same-number (answer ∙ pairs-accepted (length held) (length words) twice))
     ∙ ap bytesOf is
-    ∙ sym (bytes-accepted w row k held z)
+    ∙ sym (bytes-accepted fall w row k held z)

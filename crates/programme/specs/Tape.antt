@@ -7,7 +7,7 @@ use lib.Dec.{eqb}
 use Rattle.intake.specs.Arrival.{allPieces}
 use Rattle.system.specs.declared.System.the-variants.{Lines625}
 use Rattle.system.specs.Figures.{lineCount}
-use Rattle.system.specs.Walk.{walkRefusal, freshOf, lineBytes}
+use Rattle.system.specs.Walk.{writtenRefusal, walkRefusal, freshWalk, freshOf, lineBytes}
 use Rattle.line.specs.Samples.{Packets, nothingReady}
 use Rattle.v210.specs.Row.{rowLength}
 use Rattle.programme.specs.declared.tape.Tape.{Tape}
@@ -15,10 +15,17 @@ use Rattle.programme.specs.Record.{takesRow, endsFrame, endsPiece, recor
 
 -- ---- the steps
 
--- a tape at its start, in recordings of at most so many lines: a fresh walk, or its refusal
-unfoldable pub begunTape : ℕ → ℕ → ℕ → Tape
-begunTape system start most =
-    record { walk = freshOf system start .walk; most = most; number = freshOf system start .number; place = freshOf system start .place }
+-- a tape at its start, in recordings of at most so many lines, V of whose first fields falls at this line: a fresh walk; or the refusal of the
+-- numbers, and a walk all zero
+unfoldable pub begunTape : ℕ → ℕ → ℕ → ℕ → Tape
+begunTape system start most fall =
+    record {
+      walk = cond (eqb (writtenRefusal system start fall .number) 0) (freshWalk system start) (freshWalk 0 0);
+      most = most;
+      fall = fall;
+      number = writtenRefusal system start fall .number;
+      place = writtenRefusal system start fall .place;
+    }
 
 -- whether a next recording begins before the awaited line
 unfoldable pub turnsAt : Tape → Bool
@@ -27,27 +34,28 @@ turnsAt t = endsPiece (t .walk) (t .most)
 -- the tape at the start of that one, which begins with the awaited line and counts its lines from none
 unfoldable pub turnedOf : Tape → Tape
 turnedOf t =
-    record { walk = freshOf (t .walk .system) (t .walk .line) .walk; most = t .most; number = t .number; place = t .place }
+    record { walk = freshOf (t .walk .system) (t .walk .line) .walk; most = t .most; fall = t .fall; number = t .number; place = t .place }
 
 -- the tape after its awaited line, with a buffer of so many bytes: one that was refused stays as it is
 unfoldable pub tapedOf : Tape → List ℕ → Packets → ℕ → Tape
 tapedOf t row k room =
     cond (eqb (t .number) 0)
     (record {
-      walk = recordedOf (t .walk) row k room .walk;
+      walk = recordedOf (t .fall) (t .walk) row k room .walk;
       most = t .most;
-      number = recordedOf (t .walk) row k room .number;
-      place = recordedOf (t .walk) row k room .place;
+      fall = t .fall;
+      number = recordedOf (t .fall) (t .walk) row k room .number;
+      place = recordedOf (t .fall) (t .walk) row k room .place;
     })
     t
 
 -- that line's bytes afterwards
 unfoldable pub lineTaped : Tape → List ℕ → Packets → List ℕ → List ℕ
-lineTaped t row k before = cond (eqb (t .number) 0) (lineBytesAfter (t .walk) row k before) before
+lineTaped t row k before = cond (eqb (t .number) 0) (lineBytesAfter (t .fall) (t .walk) row k before) before
 
 -- "after the last row those up to the end of its frame", as far as there may be lines
 unfoldable pub endsAt : Tape → Bool
-endsAt t = eqb (t .number) 0 && (endsFrame (t .walk) && eqb (walkRefusal (t .walk) .number) 0)
+endsAt t = eqb (t .number) 0 && (endsFrame (t .fall) (t .walk) && eqb (walkRefusal (t .walk) .number) 0)
 
 -- ---- the whole, of rows alone
 
@@ -82,14 +90,14 @@ onto room zero t row rest = rest t
 onto room (suc k) t row rest =
     nextFrom (turnsAt t) (t .walk .line)
     (cond (eqb (bareTaped (atLine t) row room .number) 0)
-    (lineThen (lineBytesOf (atLine t .walk) row nothingReady)
-    (cond (takesRow (atLine t .walk)) (rest (bareTaped (atLine t) row room)) (onto room k (bareTaped (atLine t) row room) row rest)))
+    (lineThen (lineBytesOf (atLine t .fall) (atLine t .walk) row nothingReady)
+    (cond (takesRow (atLine t .fall) (atLine t .walk)) (rest (bareTaped (atLine t) row room)) (onto room k (bareTaped (atLine t) row room) row rest)))
     (nothingMore (bareTaped (atLine t) row room)))
 
 -- the end of the last frame, at most k lines
 unfoldable pub endOf : ℕ → ℕ → Tape → Wrote
 endOf room zero t = nothingMore t
-endOf room (suc k) t = cond (endsAt t) (lineThen (lineBytesOf (t .walk) [] nothingReady) (endOf room k (bareTaped t [] room))) (nothingMore t)
+endOf room (suc k) t = cond (endsAt t) (lineThen (lineBytesOf (t .fall) (t .walk) [] nothingReady) (endOf room k (bareTaped t [] room))) (nothingMore t)
 
 -- no frame has more lines in turn without a row
 abbrev pub mostTurns : ℕ
@@ -102,6 +110,6 @@ recordRows room t (row ∷ rows) =
     cond (eqb (t .number) 0) (onto room mostTurns t row (λ after. recordRows room after rows)) (nothingMore t)
 
 -- a programme as it comes: its bytes are rows, of which the last may be short
-unfoldable pub recordedProgramme : ℕ → ℕ → ℕ → List ℕ → Wrote
-recordedProgramme system start most bytes =
-    recordRows (lineBytes (begunTape system start most .walk)) (begunTape system start most) (allPieces rowLength bytes)
+unfoldable pub recordedProgramme : ℕ → ℕ → ℕ → ℕ → List ℕ → Wrote
+recordedProgramme system start most fall bytes =
+    recordRows (lineBytes (begunTape system start most fall .walk)) (begunTape system start most fall) (allPieces rowLength bytes)

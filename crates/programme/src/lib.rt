@@ -16,25 +16,25 @@ use system::System525;
 use system::System625;
 use system::Walk;
 
-// What is due in the line that a walk awaits, where it is written.
-pub(crate) fn due_at(walk: Walk) -> Due
-    ensures { λ r. ⌜ r ≡ dueAtWalk walk ⌝ }
+// What is due in the line that a walk awaits, where it is written and V of the first field falls at this line.
+pub(crate) fn due_at(walk: Walk, fall: u32) -> Due
+    ensures { λ r. ⌜ r ≡ dueAtWalk fall walk ⌝ }
 {
-    Due::of(system::system_of(walk.system), walk.line)
+    Due::of(system::system_of(walk.system), walk.line, fall)
 }
 
 // Whether the line that a walk awaits takes a row where it is written: its V is 0.
-pub fn takes_row(walk: Walk) -> bool
-    ensures { λ r. ⌜ r ≡ takesRow walk ⌝ }
+pub fn takes_row(walk: Walk, fall: u32) -> bool
+    ensures { λ r. ⌜ r ≡ takesRow fall walk ⌝ }
 {
-    let due = due_at(walk);
+    let due = due_at(walk, fall);
     !due.v
 }
 
 // Whether, after the last row, the line that a walk awaits belongs to a frame that has begun: a line was written, this one's V is 1, and it
 // is not line 1.
-pub fn ends_frame(walk: Walk) -> bool
-    ensures { λ r. ⌜ r ≡ endsFrame walk ⌝ }
+pub fn ends_frame(walk: Walk, fall: u32) -> bool
+    ensures { λ r. ⌜ r ≡ endsFrame fall walk ⌝ }
 {
     if walk.lines == 0 {
         return false;
@@ -42,7 +42,7 @@ pub fn ends_frame(walk: Walk) -> bool
     if walk.line < 2 {
         return false;
     }
-    !takes_row(walk)
+    !takes_row(walk, fall)
 }
 
 // The lines of so many frames.

@@ -25,7 +25,7 @@ use Rattle.system.specs.declared.due.Due.{Due}
 use Rattle.system.specs.declared.walk.Walk.{Walk}
 use Rattle.system.specs.declared.System.the-variants.{Lines525}
 use Rattle.system.specs.Figures.{systemNumber, lineLength, isSystem, systemOf}
-use Rattle.system.specs.Due.{dueOf}
+use Rattle.system.specs.Due.{dueWith}
 use Rattle.system.specs.Walk.{walkRefusal, namedRefusal, isLine, standingRefusal, lineWords, dueBy, dueIn, freshWalk}
 use Rattle.system.specs.Judgement.{refusedAt, judgementOf}
 use Rattle.system.proofs.Laws.{judgement-number}
@@ -176,5 +176,5 @@ order-amended w words b =
 
 -- that there is such a line: words over 1023, and no room for samples
 pub both-met : Both (freshWalk (systemNumber Lines525) 1) (tab (lineLength Lines525) (λ i. mostWord + 1)) (record { y = []; cb = []; cr = [] })
-unfolding walkRefusal namedRefusal isSystem isLine systemOf orElse dueBy dueOf wordRefusal firstFrom faultOf faultWhere bufferRefusal tabFrom
+unfolding walkRefusal namedRefusal isSystem isLine systemOf orElse dueBy dueWith wordRefusal firstFrom faultOf faultWhere bufferRefusal tabFrom
 both-met = record { stands = refl; word = λ e. omega (arith, e); buffer = λ e. omega (arith, e) }

@@ -2,24 +2,29 @@
 use Prim.Native.Nat.{ℕ}
 use mathlib.Core.Path.{_≡_, refl, sym, ap, _∙_}
 use mathlib.Core.Bool.{true, false}
-use mathlib.Core.List.{List, []}
+use mathlib.Core.List.{List, [], _∷_}
 use native.Mathlib.Omega.{arith}
-use lib.ListN.{length, take, drop, length-take, length-drop}
+use lib.ListN.{length, getD, take, drop, length-take, length-drop}
 use Rattle.refusal.specs.declared.Refusal.{Refusal}
+use Rattle.refusal.specs.Answer.{firstOf}
 use Rattle.refusal.specs.Table.{Decides, Keeps}
 use Rattle.refusal.proofs.Tables.{keeps-before, decides-before}
+use Rattle.system.specs.declared.due.Due.{Due}
 use Rattle.system.specs.declared.walk.Walk.{Walk}
 use Rattle.system.specs.declared.walk.Judgement.{Judgement}
 use Rattle.system.specs.Figures.{activeOffset, systemOf}
-use Rattle.system.specs.Walk.{lineWords, dueIn}
-use Rattle.system.specs.Judgement.{refusedAt, acceptedAt}
-use Rattle.line.specs.Fault.{betweenOffset, countsOf}
+use Rattle.system.specs.Walk.{standingRefusal, lineWords, dueIn}
+use Rattle.system.specs.Before.{Untouched}
+use Rattle.system.specs.Judgement.{refusedAt, acceptedAt, judgementOf}
+use Rattle.system.proofs.Falls.{due-as-before}
+use Rattle.line.specs.Fault.{betweenOffset, wordRefusal, countsOf}
 use Rattle.line.specs.Samples.{Samples, activeLength, samplesOf}
 use Rattle.line.specs.Fit.{Measured}
 use Rattle.line.proofs.Theorems.{buffer-exact, buffer-decides}
-use Rattle.reader.specs.Judge.{reportOf, judgeRefusal, judgedOf, activeOf, betweenPacketsOf, activePacketsOf}
+use Rattle.reader.specs.Judge.{reportOf, lineRefusal, lineJudged, judgeRefusal, judgedOf, activeOf, betweenPacketsOf, activePacketsOf}
 use Rattle.reader.specs.Take.{takeRefusal, takenOf, inTurn}
 use Rattle.reader.specs.Left.{Stands, Advances}
+use Rattle.reader.specs.Before.{judgedBefore}
 use Rattle.reader.specs.Refusals.{judgeRefusals, takeRefusals}
 use Rattle.reader.proofs.Judged.{line-exact, line-decides, judged-as-refused, judged-refused, judged-accepted, number-judged, active-fits, active-refused, active-accepted, between-packets-refused, active-packets-refused, between-packets-accepted, active-packets-accepted, between-packets-fit, active-packets-fit}
 use Rattle.reader.proofs.Taken.{into-refused, into-blank, into-picture, told, measured-take, then-taken, then-refused, then-told, take-well}
@@ -176,3 +181,11 @@ pub take-one-result : (w : Walk) (words : List ℕ) (before : Samples) (r s : Re
     → (r ≡ s) × (after-r .y ≡ after-s .y) × (after-r .cb ≡ after-s .cb) × (after-r .cr ≡ after-s .cr)
 take-one-result w words before r s after-r after-s a b =
     (a .answer ∙ sym (b .answer), a .ys ∙ sym (b .ys), a .cbs ∙ sym (b .cbs), a .crs ∙ sym (b .crs))
+
+-- ---- Lines that L1 does not touch are judged as before: those of 625, and of 525 whose EAV corrects to the table's V or does not correct,
+-- wherever the record says no or is not looked at.
+pub judged-as-before : (w : Walk) (words : List ℕ) → Untouched w (getD words 3 0) → judgedOf w words ≡ judgedBefore w words
+unfolding lineJudged lineRefusal
+judged-as-before w words untouched =
+    ap (λ (d : Due). judgementOf (firstOf (standingRefusal w (length words) (lineWords w) ∷ wordRefusal d words ∷ [])) w d (reportOf d words) (countsOf d words))
+    (due-as-before w (getD words 3 0) untouched)

@@ -4,3 +4,4 @@ pub mod Refusals
 pub mod Passes
 pub mod Left
 pub mod Former
+pub mod Before

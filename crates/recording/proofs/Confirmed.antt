@@ -15,6 +15,7 @@ use Rattle.system.specs.declared.walk.Walk.{Walk}
 use Rattle.system.specs.Figures.{lineLength, systemOf}
 use Rattle.system.specs.Walk.{mostLines, walkRefusal, freshWalk, freshOf, lineBytes}
 use Rattle.system.proofs.Laws.{Good, good-accepted, fresh-accepted, named-accepted, walk-many-lines}
+use Rattle.system.proofs.Falls.{fresh-may}
 use Rattle.line.specs.Samples.{Samples, Content}
 use Rattle.line.specs.Fit.{Measured}
 use Rattle.system.specs.declared.walk.Judgement.{Judgement}
@@ -29,11 +30,12 @@ use Rattle.confirmation.specs.declared.Run.{Run}
 use Rattle.confirmation.specs.Run.{headerLength, headerSystem, headerStart, begunOf, judgedNext, bodyOf, confirmedOf}
 use Rattle.confirmation.proofs.Nexts.{endedWith, next-line-bytes}
 use Rattle.confirmation.proofs.Bodies.{line-has-bytes, body-ended, body-none, body-next, body-last, body-barred}
-use Rattle.recording.specs.Recording.{Recording, end, next, lineAfterAll, TwoInverted}
+use Rattle.recording.specs.Recording.{Recording, Line, linesOf, lineAfterAll, Image, no-line, line-more, TwoInverted}
+use Rattle.recording.specs.Promise.{walkBehind}
 use Rattle.recording.specs.Play.{Played, stoppedBy, play}
 use Rattle.recording.specs.Confirmed.{Holds}
 use Rattle.recording.proofs.OneLine.{accepted-judgement, buffers-measured}
-use Rattle.recording.proofs.Theorems.{fresh, line-after-in, few, blank, blank-measured, recording-reads-back, two-inverted-refused, read-through-is-recording}
+use Rattle.recording.proofs.Theorems.{fresh, line-after-in, few, as-many, recording-image, blank, blank-measured, image-read, recording-reads-back, two-inverted-refused, read-through-is-image}
 
 -- every line has so many bytes
 abbrev Each : ℕ → List (List ℕ) → Type 0
@@ -146,44 +148,38 @@ whole-lines (suc k) r (x ∷ bytes) l z =
       room = λ h. omega (arith, first .lines, others .room (omega (arith, first .lines, first .good .lines)));
     }
 
--- a recording tells as many lines as it has
-as-many : {system line altered : ℕ} {cs : List Content} {reads : List (List ℕ)} → Recording system line cs reads altered
-    → length cs ≡ length reads
-as-many end = refl
-as-many (next buffer written dam he hs more) = ap suc (as-many more)
+-- an image tells as many lines as it has
+as-many-read : {system line fallen altered : ℕ} {ls : List Line} {reads : List (List ℕ)} → Image system line fallen ls reads altered
+    → length ls ≡ length reads
+as-many-read no-line = refl
+as-many-read (line-more room may written dam he hs more) = ap suc (as-many-read more)
 
--- A, of the confirming program. A recording of at most 10,000,000 lines, each code altered in at most one bit, is confirmed, and repairs are
--- exactly the altered codes.
-pub recording-confirmed : {bytes : List ℕ} {system start altered : ℕ} {cs : List Content} {lines : List (List ℕ)}
+-- A, of the confirming program. An image of at most 10,000,000 lines is confirmed, and repairs are exactly the altered codes; so is a recording.
+pub image-confirmed : {bytes : List ℕ} {system start altered : ℕ} {ls : List Line} {lines : List (List ℕ)}
     → freshOf system start .number ≡ 0 → Holds bytes system start lines []
-    → Recording system start cs (map wordsOf lines) altered → length cs ≤ mostLines
-    → confirmedOf bytes
-    ≡ record {
-      system = system;
-      start = start;
-      number = 0;
-      place = 0;
-      walk = record { system = system; line = lineAfterAll system start cs; lines = length cs; repairs = altered };
-    }
-recording-confirmed {system = system} {start = start} hf holds rec hn =
+    → Image system start 0 ls (map wordsOf lines) altered → length ls ≤ mostLines
+    → confirmedOf bytes ≡ record { system = system; start = start; walk = walkBehind system start ls altered; number = 0; place = 0 }
+image-confirmed {system = system} {start = start} hf holds image hn =
     confirmed-plays hf holds
-    ∙ ap (λ (p : Played). bodyOf (runAfter system start p) []) (recording-reads-back hf rec hn blank blank-measured)
+    ∙ ap (λ (p : Played). bodyOf (runAfter system start p) []) (image-read hf image hn blank blank-measured)
     ∙ body-none _
+
+pub recording-confirmed : {bytes : List ℕ} {system fall start altered : ℕ} {cs : List Content} {lines : List (List ℕ)}
+    → freshOf system start .number ≡ 0 → Holds bytes system start lines []
+    → Recording system fall start cs (map wordsOf lines) altered → length cs ≤ mostLines
+    → confirmedOf bytes
+    ≡ record { system = system; start = start; walk = walkBehind system start (linesOf system fall start cs) altered; number = 0; place = 0 }
+recording-confirmed {system = system} {fall = fall} {start = start} {cs = cs} hf holds rec hn =
+    image-confirmed hf holds (recording-image rec (fresh-may (systemOf system) start fall)) (omega (arith, as-many system fall start cs))
 
 -- C, of the confirming program. Where a code has exactly two of the seven bits inverted and no earlier code more than one, the run ends
 -- with 8 in that code's place, and the walk stands behind the lines before, whatever follows the bad line.
-pub two-inverted-not-confirmed : {bytes rest : List ℕ} {system start altered place : ℕ} {cs : List Content} {c : Content}
+pub two-inverted-not-confirmed : {bytes rest : List ℕ} {system fall start altered place : ℕ} {cs : List Content} {c : Content}
     (lines : List (List ℕ)) (bad : List ℕ) → freshOf system start .number ≡ 0 → Holds bytes system start (lines ++ (bad ∷ [])) rest
-    → Recording system start cs (map wordsOf lines) altered → length cs < mostLines
-    → TwoInverted system (lineAfterAll system start cs) c (wordsOf bad) place
+    → Recording system fall start cs (map wordsOf lines) altered → length cs < mostLines
+    → TwoInverted system fall (lineAfterAll system start (linesOf system fall start cs)) c (wordsOf bad) place
     → confirmedOf bytes
-    ≡ record {
-      system = system;
-      start = start;
-      number = 8;
-      place = place;
-      walk = record { system = system; line = lineAfterAll system start cs; lines = length cs; repairs = altered };
-    }
+    ≡ record { system = system; start = start; walk = walkBehind system start (linesOf system fall start cs) altered; number = 8; place = place }
 two-inverted-not-confirmed {rest = rest} {system = system} {start = start} lines bad hf holds rec hn two =
     confirmed-plays hf holds
     ∙ ap (λ (p : Played). bodyOf (runAfter system start p) rest)
@@ -192,14 +188,14 @@ two-inverted-not-confirmed {rest = rest} {system = system} {start = start} lines
     ∙ body-ended _ rest (λ z. omega arith)
 
 -- D, of the confirming program. Nothing else is ever confirmed: of any bytes that are, the header is accepted, all behind it are whole lines,
--- and these are such an image of the recording that the writer gives for some samples; repairs are its altered codes.
-pub confirmed-is-recording : (bytes : List ℕ) → confirmedOf bytes .number ≡ 0
+-- and these are an image of lines each written with a V that was due; repairs are its altered codes.
+pub confirmed-is-image : (bytes : List ℕ) → confirmedOf bytes .number ≡ 0
     → (freshOf (headerSystem bytes) (headerStart bytes) .number ≡ 0)
     × (lines : List (List ℕ)) × Holds bytes (headerSystem bytes) (headerStart bytes) lines []
-    × (cs : List Content) × Recording (headerSystem bytes) (headerStart bytes) cs (map wordsOf lines) (confirmedOf bytes .walk .repairs)
-    × (length cs ≤ mostLines)
+    × (ls : List Line) × Image (headerSystem bytes) (headerStart bytes) 0 ls (map wordsOf lines) (confirmedOf bytes .walk .repairs)
+    × (length ls ≤ mostLines)
 unfolding confirmedOf begunOf
-confirmed-is-recording bytes z =
+confirmed-is-image bytes z =
     let system = headerSystem bytes in
     let start = headerStart bytes in
     let body = drop headerLength bytes in
@@ -211,17 +207,20 @@ confirmed-is-recording bytes z =
     let holds : Holds bytes system start lines [] = record { is-system = refl; is-start = refl; behind = behind; whole = cut .each } in
     let played = confirmed-plays hf holds ∙ body-none _ in
     let accepted = ap (λ (r : Run). r .number) (sym played) ∙ z in
-    let altered = ap (λ (r : Run). r .walk .repairs) (sym played) in
-    let read = read-through-is-recording system start hf (map wordsOf lines) blank blank-measured accepted in
-    let rec = subst (Recording system start (read .0) (map wordsOf lines)) altered (read .1) in
-    (hf, lines, holds, read .0, rec, omega (arith, as-many rec, length-map lines wordsOf, cut .room (omega arith)))
+    let read = read-through-is-image system start hf (map wordsOf lines) blank blank-measured accepted in
+    let altered : read .1 ≡ confirmedOf bytes .walk .repairs =
+    sym (ap (λ (p : Played). p .walk .repairs) (read .4)) ∙ ap (λ (r : Run). r .walk .repairs) (sym played) in
+    (hf, lines, holds, read .0, subst (Image system start 0 (read .0) (map wordsOf lines)) altered (read .2), read .3)
 
 -- ---- bytes behind a recording
-module _ {bytes rest : List ℕ} {system start altered : ℕ} {cs : List Content} {lines : List (List ℕ)} (hf : freshOf system start .number ≡ 0)
-    (holds : Holds bytes system start lines rest) (rec : Recording system start cs (map wordsOf lines) altered) where
+module _ {bytes rest : List ℕ} {system fall start altered : ℕ} {cs : List Content} {lines : List (List ℕ)} (hf : freshOf system start .number ≡ 0)
+    (holds : Holds bytes system start lines rest) (rec : Recording system fall start cs (map wordsOf lines) altered) where
   -- the walk behind it
   abbrev reached : Walk
-  reached = record { system = system; line = lineAfterAll system start cs; lines = length cs; repairs = altered }
+  reached = walkBehind system start (linesOf system fall start cs) altered
+
+  many : length (linesOf system fall start cs) ≡ length cs
+  many = as-many system fall start cs
 
   -- the run goes on there with the bytes that are left
   left : length cs ≤ mostLines → confirmedOf bytes ≡ bodyOf (goingOn system start reached) rest
@@ -234,7 +233,7 @@ module _ {bytes rest : List ℕ} {system start altered : ℕ} {cs : List Content
   unfolding judgedNext
   trailing-refused hn some short =
       let f = fresh system start hf in
-      let good : Good reached = record { system = f .a-system; line = line-after-in system start cs (f .a-line); lines = hn; repairs = few rec } in
+      let good : Good reached = record { system = f .a-system; line = line-after-in system start (linesOf system fall start cs) (f .a-line); lines = omega (arith, many); repairs = few (recording-image rec (fresh-may (systemOf system) start fall)) } in
       let stands : walkRefusal reached .number ≡ 0 = same-number (good-accepted reached good) in
       left (omega arith)
       ∙ body-last (goingOn system start reached) rest refl (omega arith) (omega arith)
@@ -244,7 +243,7 @@ module _ {bytes rest : List ℕ} {system start altered : ℕ} {cs : List Content
       → confirmedOf bytes ≡ record { system = system; start = start; walk = reached; number = 4; place = 0 }
   past-limit-refused hn some =
       let f = fresh system start hf in
-      let four = walk-many-lines reached (same-number (named-accepted system (reached .line) (f .a-system) (line-after-in system start cs (f .a-line)))) (omega arith) in
+      let four = walk-many-lines reached (same-number (named-accepted system (reached .line) (f .a-system) (line-after-in system start (linesOf system fall start cs) (f .a-line)))) (omega (arith, many)) in
       let barred : walkRefusal reached .number ≡ 0 → ⊥ = λ z. omega (arith, same-number four) in
       left (omega arith)
       ∙ body-barred (goingOn system start reached) rest refl (omega arith) barred

@@ -15,10 +15,11 @@ use Rattle.refusal.proofs.Cases.{by-test}
 use Rattle.intake.specs.Arrival.{pieces, allPieces}
 use Rattle.intake.proofs.Pieces.{pieces-of-whole, pieces-joined}
 use Rattle.system.specs.declared.walk.Walk.{Walk}
+use Rattle.system.specs.declared.walk.Fresh.{Fresh}
 use Rattle.system.specs.Figures.{lineLength, systemOf}
-use Rattle.system.specs.Walk.{mostLines, freshOf, lineBytes}
+use Rattle.system.specs.Walk.{mostLines, writtenRefusal, freshOf, lineBytes}
 use Rattle.system.specs.Judgement.{noPackets}
-use Rattle.system.proofs.Laws.{fresh-accepted, judgement-well}
+use Rattle.system.proofs.Laws.{fresh-accepted, accepted-written, judgement-well}
 use Rattle.line.specs.Samples.{Packets, Content}
 use Rattle.system.specs.declared.walk.Judgement.{Judgement}
 use Rattle.words.specs.Bytes.{wordsOf, bytesOf}
@@ -147,45 +148,67 @@ byte-pieces n (suc k) (b ∷ bytes) all row at =
     behind : (i : ℕ) → i < length (drop n (b ∷ bytes)) → getD (drop n (b ∷ bytes)) i 0 < 256
     behind i l = subst (λ (x : ℕ). x < 256) (sym (getD-drop n (b ∷ bytes) i 0)) (all (n + i) (omega (arith, length-drop n (b ∷ bytes))))
 
+-- ---- a tape whose numbers are accepted begins with a fresh walk
+record Begun (system start most fall : ℕ) : Type 0 where
+  hf : freshOf system start .number ≡ 0
+  walk : begunTape system start most fall .walk ≡ freshOf system start .walk
+  number : begunTape system start most fall .number ≡ 0
+  sound : Sound system fall (begunTape system start most fall)
+
+begun : (system start most fall : ℕ) → writtenRefusal system start fall .number ≡ 0 → Begun system start most fall
+unfolding begunTape
+begun system start most fall z =
+    let named = accepted-written system start fall z in
+    let f = fresh-accepted system start (named .a-system) (named .a-line) in
+    record {
+      hf = ap (λ (x : Fresh). x .number) f;
+      walk = simp (eq-eqb _ _ z) (sym (ap (λ (x : Fresh). x .walk) f));
+      number = z;
+      sound = simp (eq-eqb _ _ z) (record { same = refl; same-fall = refl; a-fall = named .a-fall; a-system = named .a-system; a-line = named .a-line });
+    }
+
 pub programme-taken : ProgrammeTaken
-unfolding recordedProgramme begunTape
-programme-taken system start most programme hf good few =
-    let f = fresh system start hf in
-    let t = begunTape system start most in
-    let size : lineBytes (t .walk) ≡ 2 * lineLength (systemOf system) = ap (λ (v : Walk). lineBytes v) (f .walk) in
-    rows-on system (lineBytes (t .walk)) size (allPieces rowLength programme) 0 t good (omega arith)
+unfolding recordedProgramme
+programme-taken system start most fall programme z good few =
+    let b = begun system start most fall z in
+    let t = begunTape system start most fall in
+    let w = b .walk ∙ fresh system start (b .hf) .walk in
+    let size : lineBytes (t .walk) ≡ 2 * lineLength (systemOf system) = ap (λ (v : Walk). lineBytes v) w in
+    rows-on system fall (lineBytes (t .walk)) size (allPieces rowLength programme) 0 t good (omega arith)
     (record {
-      sound = rw (f .walk) (record { same = refl; a-system = f .a-system; a-line = f .a-line });
-      number = hf;
-      repairs = ap (λ (v : Walk). v .repairs) (f .walk);
-      lines = omega (arith, ap (λ (v : Walk). v .lines) (f .walk));
+      sound = b .sound;
+      number = b .number;
+      repairs = ap (λ (v : Walk). v .repairs) w;
+      lines = omega (arith, ap (λ (v : Walk). v .lines) w);
     })
 
 pub programme-recorded : ProgrammeRecorded
-unfolding recordedProgramme begunTape
-programme-recorded system start most programme hf bytes end =
-    let f = fresh system start hf in
-    let sound : Sound system (begunTape system start most) = rw (f .walk) (record { same = refl; a-system = f .a-system; a-line = f .a-line }) in
-    let room = lineBytes (begunTape system start most .walk) in
-    let split = rows-taped system room (allPieces rowLength programme) (begunTape system start most) sound (byte-pieces rowLength (length programme) programme bytes) end in
-    subst (Recordings system _) (sym (split .all)) (filters.one start (split .here) _ (split .packets) hf (split .recorded) (split .behind))
+unfolding recordedProgramme
+programme-recorded system start most fall programme z bytes end =
+    let b = begun system start most fall z in
+    let t = begunTape system start most fall in
+    let split = rows-taped system fall (lineBytes (t .walk)) (allPieces rowLength programme) t (b .sound) (byte-pieces rowLength (length programme) programme bytes) end in
+    let lines = recordedProgramme system start most fall programme .lines in
+    let made = subst (λ (v : Walk). Recorded fall v (split .here) (split .packets) lines) (b .walk)
+    (subst (λ (n : ℕ). Recorded n (t .walk) (split .here) (split .packets) lines) (b .sound .same-fall) (split .recorded)) in
+    subst (Recordings system fall _) (sym (split .all)) (filters.one start (split .here) _ (split .packets) (b .hf) made (split .behind))
 
 -- ---- and back
 -- a copy of a recording that took rows gives those rows
-copy-rows : {system start altered : ℕ} (rows lines copy : List (List ℕ)) (ks : List Packets) (cs : List Content) (file : List ℕ)
+copy-rows : {system fall start altered : ℕ} (rows lines copy : List (List ℕ)) (ks : List Packets) (cs : List Content) (file : List ℕ)
     → freshOf system start .number ≡ 0
-    → Recorded (freshOf system start .walk) rows ks lines → Recording system start cs (map wordsOf lines) 0
-    → Recording system start cs (map wordsOf copy) altered → length cs ≤ mostLines → Holds file system start copy []
+    → Recorded fall (freshOf system start .walk) rows ks lines → Recording system fall start cs (map wordsOf lines) 0
+    → Recording system fall start cs (map wordsOf copy) altered → length cs ≤ mostLines → Holds file system start copy []
     → extractedProgramme file ≡ rows
-copy-rows {system} {start} {altered} rows lines copy ks cs file hf made same damaged few holds =
-    let told = rows-back system start rows lines ks hf made in
+copy-rows {system} {fall} {start} {altered} rows lines copy ks cs file hf made same damaged few holds =
+    let told = rows-back system fall start rows lines ks hf made in
     let back = ap (λ (x : Extracted). x .rows) (told .3 0 lines (told .1) (told .2)) in
-    let once = ap (λ (x : Extracted). x .rows) (recording-extracted system start 0 cs lines hf same few (told .2)) in
-    let again = ap (λ (x : Extracted). x .rows) (recording-extracted system start altered cs copy hf damaged few (holds .whole)) in
+    let once = ap (λ (x : Extracted). x .rows) (recording-extracted system fall start 0 cs lines hf same few (told .2)) in
+    let again = ap (λ (x : Extracted). x .rows) (recording-extracted system fall start altered cs copy hf damaged few (holds .whole)) in
     file-rows hf holds ∙ again ∙ sym once ∙ back
 
-copies-back : {system : ℕ} {recordings : List (ℕ × List (List ℕ))} {rows files : List (List ℕ)} → Recordings system recordings rows
-    → Copies system recordings files → flatten (map extractedProgramme files) ≡ rows
+copies-back : {system fall : ℕ} {recordings : List (ℕ × List (List ℕ))} {rows files : List (List ℕ)} → Recordings system fall recordings rows
+    → Copies system fall recordings files → flatten (map extractedProgramme files) ≡ rows
 unfolding flatten
 copies-back filters.Recordings.none filters.Copies.none = refl
 copies-back (filters.Recordings.one start rows lines ks hf made rest) (filters.Copies.one {copy = copy} cs file same damaged few holds more) =
@@ -215,17 +238,17 @@ written-holds system start lines whole =
       whole = whole;
     }
 
-copies-of : {system : ℕ} {recordings : List (ℕ × List (List ℕ))} {rows : List (List ℕ)} → Recordings system recordings rows
-    → Copies system recordings (map (fileOf system) recordings)
+copies-of : {system fall : ℕ} {recordings : List (ℕ × List (List ℕ))} {rows : List (List ℕ)} → Recordings system fall recordings rows
+    → Copies system fall recordings (map (fileOf system) recordings)
 copies-of filters.Recordings.none = filters.Copies.none
-copies-of {system} (filters.Recordings.one start rows lines ks hf made rest) =
-    let told = rows-recorded system start rows lines ks hf made in
+copies-of {system} {fall} (filters.Recordings.one start rows lines ks hf made rest) =
+    let told = rows-recorded system fall start rows lines ks hf made in
     filters.Copies.one (told .0) (fileOf system (start, lines)) (told .1) (told .1) (told .4) (written-holds system start lines (told .5)) (copies-of rest)
 
 pub written-copies : WrittenCopies
-written-copies system recordings rows made = copies-of made
+written-copies system fall recordings rows made = copies-of made
 
 pub programme-back : ProgrammeBack
-programme-back system start most programme files hf bytes end copies =
-    ap flatten (copies-back (programme-recorded system start most programme hf bytes end) copies)
+programme-back system start most fall programme files hf bytes end copies =
+    ap flatten (copies-back (programme-recorded system start most fall programme hf bytes end) copies)
     ∙ pieces-joined rowLength programme (omega arith)

@@ -12,6 +12,7 @@ pub mod ExtractedLines
 pub mod Programme
 pub mod Row
 pub mod Struck
+pub mod Falling
 pub mod TapedLines
 pub mod TakenRows
 pub mod Filters

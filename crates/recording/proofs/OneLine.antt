@@ -1,17 +1,21 @@
 -- What judging and taking in turn answer to one line at a walk that refuses none, with buffers of the right lengths. Assumes nothing.
-use Prim.Native.Nat.{ℕ}
+use Prim.Native.Nat.{ℕ, zero, suc, _+_, _*_, _≤_}
 use mathlib.Core.Path.{_≡_, refl, sym, _∙_}
 use mathlib.Core.List.{List}
-use mathlib.Core.Bool.{false}
+use mathlib.Core.Bool.{Bool, true, false}
+use native.Mathlib.Omega.{arith}
+use lib.Dec.{eqb}
 use lib.ListN.{length}
 use Rattle.refusal.specs.declared.Refusal.{Refusal}
 use Rattle.refusal.specs.Answer.{none}
 use Rattle.refusal.proofs.Cases.{by-test}
 use Rattle.refusal.proofs.Firsts.{same-number}
+use Rattle.timing.specs.Code.{vBit}
+use Rattle.timing.proofs.Laws.{found}
+use Rattle.system.specs.declared.due.Due.{Due}
 use Rattle.system.specs.declared.walk.Walk.{Walk}
-use Rattle.system.specs.Figures.{systemOf}
-use Rattle.system.specs.Due.{dueOf}
-use Rattle.system.specs.Walk.{lineWords, dueBy, dueIn}
+use Rattle.system.specs.Due.{flag, flagsOf}
+use Rattle.system.specs.Walk.{vSeen, lineWords, dueIn}
 use Rattle.system.specs.Judgement.{acceptedAt, refusedAt}
 use Rattle.system.proofs.Laws.{Good, good-accepted, accepted-good, standing-accepted}
 use Rattle.line.specs.Fault.{wordRefusal, countsOf}
@@ -25,10 +29,25 @@ use Rattle.reader.proofs.Judged.{line-words, accepted, judged-accepted, judged-
 use Rattle.reader.proofs.Taken.{take-well, measured-turn}
 use Rattle.reader.proofs.Theorems.{turn-number, accepted-advances}
 
--- what is due where a line is read is what was due where it was written
-pub due-at-walk : (w : Walk) (words : List ℕ) → dueIn w words ≡ dueOf (systemOf (w .system)) (w .line)
-unfolding dueBy
-due-at-walk w words = refl
+-- V of a code that was found, and of the flags that are due
+pub found-seen : (fvh p n : ℕ) → n ≤ 1 → vSeen (found fvh p n) ≡ eqb (vBit fvh) 1
+found-seen fvh p zero l = refl
+found-seen fvh p (suc zero) l = refl
+found-seen fvh p (suc (suc n)) l = absurd (omega arith)
+
+v-of-flags : (f v h : Bool) → eqb (vBit (4 * flag f + 2 * flag v + flag h)) 1 ≡ v
+v-of-flags true true true = refl
+v-of-flags true true false = refl
+v-of-flags true false true = refl
+v-of-flags true false false = refl
+v-of-flags false true true = refl
+v-of-flags false true false = refl
+v-of-flags false false true = refl
+v-of-flags false false false = refl
+
+pub flags-seen : (d : Due) (h : Bool) → eqb (vBit (flagsOf d h)) 1 ≡ d .v
+unfolding flagsOf
+flags-seen d h = v-of-flags (d .f) (d .v) h
 
 module _ (w : Walk) (good : Good w) (b : Samples) (m : Measured b) (words : List ℕ) where
   module _ (size : length words ≡ lineWords w) where

@@ -1,15 +1,15 @@
 -- The marked samples hold, by computation. Assumes nothing.
 use mathlib.Core.Path.{refl}
 use Rattle.timing.specs.Code.{fourthOf, correctionOf}
-use Rattle.system.specs.Figures.{vOf, fOf}
-use Rattle.system.specs.Due.{dueOf, flagsOf}
+use Rattle.system.specs.Figures.{vOf, vWritten, fOf}
+use Rattle.system.specs.Due.{dueWith, dueOf, flagsOf}
 use Rattle.line.specs.Offsets.{dueAt}
 use Rattle.line.specs.Fault.{faultWhere}
 use Rattle.serial.proofs.Theorems as serial
 use Rattle.recording.specs.Marked.{Marked}
 
 pub marked : Marked
-unfolding fourthOf correctionOf vOf fOf dueOf flagsOf dueAt faultWhere
+unfolding fourthOf correctionOf vOf vWritten fOf dueWith dueOf flagsOf dueAt faultWhere
 marked =
     record {
       m1 = refl;

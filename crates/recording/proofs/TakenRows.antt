@@ -63,13 +63,13 @@ pub good-row-met : GoodRowMet
 good-row-met = good-row
 
 -- what a row is given as, where the awaited line takes it
-abbrev Given : Walk → List ℕ → Type 0
-Given w row = takesRow w ≡ true → GoodRow row
+abbrev Given : Tape → List ℕ → Type 0
+Given t row = takesRow (t .fall) (t .walk) ≡ true → GoodRow row
 
-module _ (system room : ℕ) (size : room ≡ 2 * lineLength (systemOf system)) where
+module _ (system fall room : ℕ) (size : room ≡ 2 * lineLength (systemOf system)) where
   -- a tape that goes on, with no repairs and at most so many lines
   pub record Ready (bound : ℕ) (t : Tape) : Type 0 where
-    pub sound : Sound system t
+    pub sound : Sound system fall t
     pub number : t .number ≡ 0
     pub repairs : t .walk .repairs ≡ 0
     pub lines : t .walk .lines ≤ bound
@@ -78,7 +78,7 @@ module _ (system room : ℕ) (size : room ≡ 2 * lineLength (systemOf system)) 
   weaker l r = record { sound = r .sound; number = r .number; repairs = r .repairs; lines = omega (arith, r .lines) }
 
   -- ---- one line
-  module _ (bound : ℕ) (t : Tape) (row : List ℕ) (r : Ready bound t) (low : bound < mostLines) (given : Given (t .walk) row) where
+  module _ (bound : ℕ) (t : Tape) (row : List ℕ) (r : Ready bound t) (low : bound < mostLines) (given : Given t row) where
     good : Good (t .walk)
     good =
         record {
@@ -88,28 +88,29 @@ module _ (system room : ℕ) (size : room ≡ 2 * lineLength (systemOf system)) 
           repairs = omega (arith, r .repairs);
         }
 
-    recordable : Recordable (t .walk) row nothingReady room
+    recordable : Recordable (t .fall) (t .walk) row nothingReady room
     recordable =
         record {
           walk = ap (λ (x : Refusal). x .number) (good-accepted (t .walk) good);
+          falls = r .sound .a-fall;
           whole = size ∙ ap (λ (n : ℕ). 2 * lineLength (systemOf n)) (sym (r .sound .same));
           long = λ takes. given takes .long;
           spare = λ takes. given takes .spare;
-          packets = packets-passed (dueAtWalk (t .walk)) nothingReady (same-number (nothing-ready-refuses-nothing (dueAtWalk (t .walk))));
+          packets = packets-passed (dueAtWalk (t .fall) (t .walk)) nothingReady (same-number (nothing-ready-refuses-nothing (dueAtWalk (t .fall) (t .walk))));
           samples = λ takes. given takes .samples _;
         }
 
     accepted : bareTaped t row room .number ≡ 0
     accepted =
         ap (λ (x : Tape). x .number) (taped t row room (r .number))
-        ∙ ap (λ (j : Judgement). j .number) (recorded-accepted (t .walk) row nothingReady room (recordable-accepted (t .walk) row nothingReady room recordable))
+        ∙ ap (λ (j : Judgement). j .number) (recorded-accepted (t .fall) (t .walk) row nothingReady room (recordable-accepted (t .fall) (t .walk) row nothingReady room recordable))
 
     line-on : Ready (bound + 1) (bareTaped t row room)
     unfolding advancedOf
     line-on =
         let w = advanced t row room (r .number) accepted in
         record {
-          sound = still-sound t row room (r .number) accepted system (r .sound);
+          sound = still-sound t row room (r .number) accepted system fall (r .sound);
           number = accepted;
           repairs = ap (λ (v : Walk). v .repairs) w ∙ omega (arith, r .repairs);
           lines = omega (arith, ap (λ (v : Walk). v .lines) w, r .lines);
@@ -118,10 +119,10 @@ module _ (system room : ℕ) (size : room ≡ 2 * lineLength (systemOf system)) 
   -- ---- a next recording
   there : (bound : ℕ) (t : Tape) → Ready bound t → (turns : Bool) → Ready bound (cond turns (turnedOf t) t)
   there bound t r true =
-      let w = turned-walk system t (r .sound) in
+      let w = turned-walk system fall t (r .sound) in
       record {
-        sound = sound-there system t (r .sound) true;
-        number = line-there system t (r .sound) true .1 ∙ r .number;
+        sound = sound-there system fall t (r .sound) true;
+        number = line-there system fall t (r .sound) true .1 ∙ r .number;
         repairs = ap (λ (v : Walk). v .repairs) w;
         lines = omega (arith, ap (λ (v : Walk). v .lines) w);
       }
@@ -140,7 +141,7 @@ module _ (system room : ℕ) (size : room ≡ 2 * lineLength (systemOf system)) 
       let on = line-on bound u row here (omega arith) (λ takes. row-good) in
       ap (λ (x : Tape). x .number) (next-tape turns (t .walk .line) _)
       ∙ simp (eq-eqb (v .number) 0 (on .number))
-      (by-test (takesRow (u .walk))
+      (by-test (takesRow (u .fall) (u .walk))
       (λ takes. simp takes (well v (weaker (omega arith) on)))
       (λ blank. simp blank (row-on k (bound + 1) v row rest row-good (omega arith) on (λ x ready. well x (weaker (omega arith) ready)))))
 
@@ -151,8 +152,8 @@ module _ (system room : ℕ) (size : room ≡ 2 * lineLength (systemOf system)) 
   end-on (suc k) bound t low r =
       by-test (endsAt t)
       (λ goes.
-      let frame = and-true (endsFrame (t .walk)) _ (and-true (eqb (t .number) 0) _ goes .1) .0 in
-      let blank = not-true (takesRow (t .walk)) (and-true (ltb 0 (t .walk .lines) && ltb 1 (t .walk .line)) (not (takesRow (t .walk))) frame .1) in
+      let frame = and-true (endsFrame (t .fall) (t .walk)) _ (and-true (eqb (t .number) 0) _ goes .1) .0 in
+      let blank = not-true (takesRow (t .fall) (t .walk)) (and-true (ltb 0 (t .walk .lines) && ltb 1 (t .walk .line)) (not (takesRow (t .fall) (t .walk))) frame .1) in
       simp goes
       (end-on k (bound + 1) (bareTaped t [] room) (omega arith)
       (line-on bound t [] r (omega arith) (λ takes. absurd (true≢false (sym takes ∙ blank))))))

@@ -5,7 +5,7 @@ use mathlib.Core.Path.{_≡_}
 use mathlib.Core.List.{List, [], _∷_, _++_, map, flatten, List·Memᴰ}
 use lib.ListN.{length, getD}
 use Rattle.intake.specs.Arrival.{allPieces}
-use Rattle.system.specs.Walk.{mostLines, freshOf}
+use Rattle.system.specs.Walk.{mostLines, writtenRefusal, freshOf}
 use Rattle.system.specs.declared.due.Due.{Due}
 use Rattle.words.specs.Words.{leastSample, mostSample}
 use Rattle.line.specs.Samples.{Packets, Content, activeLength}
@@ -21,22 +21,22 @@ use Rattle.recording.specs.Confirmed.{Holds}
 use Rattle.recording.specs.Programme.{Recorded}
 
 -- Recordings one behind the other, each its start line and its lines, and the rows that they took in turn, with whatever packets.
-pub data Recordings (system : ℕ) : List (ℕ × List (List ℕ)) → List (List ℕ) → Type 0 where
-  none : Recordings system [] []
+pub data Recordings (system fall : ℕ) : List (ℕ × List (List ℕ)) → List (List ℕ) → Type 0 where
+  none : Recordings system fall [] []
   one : {more : List (ℕ × List (List ℕ))} {rest : List (List ℕ)} (start : ℕ) (rows lines : List (List ℕ)) (ks : List Packets)
       → freshOf system start .number ≡ 0
-      → Recorded (freshOf system start .walk) rows ks lines
-      → Recordings system more rest
-      → Recordings system ((start, lines) ∷ more) (rows ++ rest)
+      → Recorded fall (freshOf system start .walk) rows ks lines
+      → Recordings system fall more rest
+      → Recordings system fall ((start, lines) ∷ more) (rows ++ rest)
 
 -- every number of a list is a byte
 abbrev pub AllBytes : List ℕ → Type 0
 AllBytes bytes = (i : ℕ) → i < length bytes → getD bytes i 0 < 256
 
 -- what recording writes of a programme: the recording that begins with the start line, and those behind it
-abbrev pub written : ℕ → ℕ → ℕ → List ℕ → List (ℕ × List (List ℕ))
-written system start most programme =
-    (start, recordedProgramme system start most programme .lines) ∷ recordedProgramme system start most programme .more
+abbrev pub written : ℕ → ℕ → ℕ → ℕ → List ℕ → List (ℕ × List (List ℕ))
+written system start most fall programme =
+    (start, recordedProgramme system start most fall programme .lines) ∷ recordedProgramme system start most fall programme .more
 
 -- a row that can be recorded: of the right length, spare bits 0, and no sample that the writer refuses
 pub record GoodRow (row : List ℕ) : Type 0 where
@@ -54,31 +54,31 @@ GoodRowMet =
 -- Of good rows nothing is refused: of up to 15,998, since at most 625 lines are written for each (`programme-taken`).
 abbrev pub ProgrammeTaken : Type 0
 ProgrammeTaken =
-    (system start most : ℕ) (programme : List ℕ) → freshOf system start .number ≡ 0
+    (system start most fall : ℕ) (programme : List ℕ) → writtenRefusal system start fall .number ≡ 0
     → ((row : List ℕ) → List·Memᴰ row (allPieces rowLength programme) → GoodRow row) → length (allPieces rowLength programme) < 15999
-    → recordedProgramme system start most programme .tape .number ≡ 0
+    → recordedProgramme system start most fall programme .tape .number ≡ 0
 
 -- Where nothing was refused, what is written are recordings of exactly the programme's rows (`programme-recorded`).
 abbrev pub ProgrammeRecorded : Type 0
 ProgrammeRecorded =
-    (system start most : ℕ) (programme : List ℕ) → freshOf system start .number ≡ 0 → AllBytes programme
-    → recordedProgramme system start most programme .tape .number ≡ 0
-    → Recordings system (written system start most programme) (allPieces rowLength programme)
+    (system start most fall : ℕ) (programme : List ℕ) → writtenRefusal system start fall .number ≡ 0 → AllBytes programme
+    → recordedProgramme system start most fall programme .tape .number ≡ 0
+    → Recordings system fall (written system start most fall programme) (allPieces rowLength programme)
 
 -- Extracting goes as confirming does: the run is the confirming program's, whatever the bytes (`extracting-confirms`).
 abbrev pub ExtractingConfirms : Type 0
 ExtractingConfirms = (bytes : List ℕ) → runAfter (begunOf bytes) (linesIn bytes) ≡ confirmedOf bytes
 
 -- Files that are, in turn, copies of recordings: each of the same samples, damaged in at most one bit of each code.
-pub data Copies (system : ℕ) : List (ℕ × List (List ℕ)) → List (List ℕ) → Type 0 where
-  none : Copies system [] []
+pub data Copies (system fall : ℕ) : List (ℕ × List (List ℕ)) → List (List ℕ) → Type 0 where
+  none : Copies system fall [] []
   one : {start altered : ℕ} {lines copy : List (List ℕ)} {more : List (ℕ × List (List ℕ))} {files : List (List ℕ)} (cs : List Content) (file : List ℕ)
-      → Recording system start cs (map wordsOf lines) 0
-      → Recording system start cs (map wordsOf copy) altered
+      → Recording system fall start cs (map wordsOf lines) 0
+      → Recording system fall start cs (map wordsOf copy) altered
       → length cs ≤ mostLines
       → Holds file system start copy []
-      → Copies system more files
-      → Copies system ((start, lines) ∷ more) (file ∷ files)
+      → Copies system fall more files
+      → Copies system fall ((start, lines) ∷ more) (file ∷ files)
 
 -- the bytes of a recording of this system: its header, and its lines
 abbrev pub fileOf : ℕ → (ℕ × List (List ℕ)) → List ℕ
@@ -87,13 +87,13 @@ fileOf system recording = bytesOf (system ∷ recording .0 ∷ []) ++ flatten (r
 -- Recordings as they were written are such copies of themselves, so that what is asked for can be met (`written-copies`).
 abbrev pub WrittenCopies : Type 0
 WrittenCopies =
-    (system : ℕ) (recordings : List (ℕ × List (List ℕ))) (rows : List (List ℕ)) → Recordings system recordings rows
-    → Copies system recordings (map (fileOf system) recordings)
+    (system fall : ℕ) (recordings : List (ℕ × List (List ℕ))) (rows : List (List ℕ)) → Recordings system fall recordings rows
+    → Copies system fall recordings (map (fileOf system) recordings)
 
 -- So the programme that went in comes out, byte for byte, of what was written and of every copy of it (`programme-back`).
 abbrev pub ProgrammeBack : Type 0
 ProgrammeBack =
-    (system start most : ℕ) (programme : List ℕ) (files : List (List ℕ)) → freshOf system start .number ≡ 0 → AllBytes programme
-    → recordedProgramme system start most programme .tape .number ≡ 0
-    → Copies system (written system start most programme) files
+    (system start most fall : ℕ) (programme : List ℕ) (files : List (List ℕ)) → writtenRefusal system start fall .number ≡ 0 → AllBytes programme
+    → recordedProgramme system start most fall programme .tape .number ≡ 0
+    → Copies system fall (written system start most fall programme) files
     → flatten (flatten (map extractedProgramme files)) ≡ programme

@@ -26,7 +26,7 @@ pub record Marked : Type 0 where
   -- 116: refused, 7
   pub m6 : valuesOf (correctionOf 116) ≡ record { number = 7; fvh = 0; bit = 0 }
   -- 876 in EAV of line 100, 625: corrected to 872, refused, 9
-  pub m7 : (valuesOf (correctionOf 876) ≡ record { number = 0; fvh = 5; bit = 2 }) × (fourthOf 5 ≡ 872) × (faultWhere (dueAt (dueOf Lines625 100) 3) 876 ≡ 9)
+  pub m7 : (valuesOf (correctionOf 876) ≡ record { number = 0; fvh = 5; bit = 2 }) × (fourthOf 5 ≡ 872) × (faultWhere (dueAt (dueOf Lines625 100 20) 3) 876 ≡ 9)
   -- 625, line 22 and line 23: V = 1, V = 0
   pub m8 : (vOf Lines625 22 ≡ true) × (vOf Lines625 23 ≡ false)
   -- 525, line 3 and line 4: F = 1, F = 0, V = 1 for both

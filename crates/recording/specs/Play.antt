@@ -9,8 +9,9 @@ use Rattle.system.specs.Walk.{dueIn}
 use Rattle.line.specs.Samples.{Samples, Packets, packetsOf}
 use Rattle.reader.specs.Take.{inTurn}
 
--- what comes of it: the samples of each accepted V = 0 line, the packets of each accepted line, and the last answer's number, place and walk
+-- what comes of it: the V of each accepted line, the samples of each whose V is 0, the packets of each, and the last answer's number, place and walk
 pub record Played : Type 0 where
+  pub vs : List Bool
   pub pictures : List Samples
   pub packets : List Packets
   pub number : ℕ
@@ -21,6 +22,7 @@ pub record Played : Type 0 where
 abbrev pub andThen : Bool → Samples → Packets → Played → Played
 andThen v b k rest =
     record {
+      vs = v ∷ rest .vs;
       pictures = cond v (rest .pictures) (b ∷ rest .pictures);
       packets = k ∷ rest .packets;
       number = rest .number;
@@ -29,11 +31,11 @@ andThen v b k rest =
     }
 
 abbrev pub stoppedBy : Judgement → Played
-stoppedBy j = record { pictures = []; packets = []; number = j .number; place = j .place; walk = j .walk }
+stoppedBy j = record { vs = []; pictures = []; packets = []; number = j .number; place = j .place; walk = j .walk }
 
 -- the sample buffers hold what the line before left in them
 unfoldable pub play : Walk → Samples → List (List ℕ) → Played
-play w b [] = record { pictures = []; packets = []; number = 0; place = 0; walk = w }
+play w b [] = record { vs = []; pictures = []; packets = []; number = 0; place = 0; walk = w }
 play w b (words ∷ rest) =
     cond (eqb (inTurn w words b .judgement .number) 0)
     (andThen (dueIn w words .v) (inTurn w words b .buffers) (packetsOf (dueIn w words) words)

@@ -16,18 +16,18 @@ use Rattle.words.specs.Bytes.{wordsOf}
 use Rattle.v210.specs.Row.{rowLength, packedOf}
 use Rattle.programme.specs.Record.{takesRow, rowSamples, recordedOf, lineBytesAfter}
 use Rattle.programme.specs.Extract.{extractedOf, givesRow, rowOfLine}
-use Rattle.recording.specs.Recording.{Recording, pictures, allPackets}
-use Rattle.recording.specs.Promise.{walkAfter}
+use Rattle.recording.specs.Recording.{Recording, linesOf, picturesOf, packetsIn}
+use Rattle.recording.specs.Promise.{walkBehind}
 
--- Lines in turn from a walk on, each what an accepted call of `record` leaves in a buffer. Told are the rows that were taken, the packets of
+-- Lines in turn from a walk on, with one fall line, each what an accepted call of `record` leaves in a buffer. Told are the rows that were taken, the packets of
 -- every line, and the lines as bytes. A row is a list of bytes.
-pub data Recorded : Walk → List (List ℕ) → List Packets → List (List ℕ) → Type 0 where
-  end : {w : Walk} → Recorded w [] [] []
+pub data Recorded (fall : ℕ) : Walk → List (List ℕ) → List Packets → List (List ℕ) → Type 0 where
+  end : {w : Walk} → Recorded fall w [] [] []
   next : {w : Walk} {rows lines : List (List ℕ)} {ks : List Packets} (row : List ℕ) (k : Packets) (buffer : List ℕ)
       → ((i : ℕ) → i < length row → getD row i 0 < 256)
-      → recordedOf w row k (length buffer) .number ≡ 0
-      → Recorded (recordedOf w row k (length buffer) .walk) rows ks lines
-      → Recorded w (cond (takesRow w) (row ∷ rows) rows) (k ∷ ks) (lineBytesAfter w row k buffer ∷ lines)
+      → recordedOf fall w row k (length buffer) .number ≡ 0
+      → Recorded fall (recordedOf fall w row k (length buffer) .walk) rows ks lines
+      → Recorded fall w (cond (takesRow fall w) (row ∷ rows) rows) (k ∷ ks) (lineBytesAfter fall w row k buffer ∷ lines)
 
 -- what comes of extracting lines up to the first refusal: the rows of the V = 0 lines, the packets of every line, and the last answer's number,
 -- place and walk
@@ -77,33 +77,33 @@ Whole system lines = (line : List ℕ) → List·Memᴰ line lines → length li
 -- What is recorded of rows and packets is a recording of their samples and those packets (`rows-recorded`).
 abbrev pub RowsRecorded : Type 0
 RowsRecorded =
-    (system start : ℕ) (rows lines : List (List ℕ)) (ks : List Packets) → freshOf system start .number ≡ 0
-    → Recorded (freshOf system start .walk) rows ks lines
-    → (cs : List Content) × Recording system start cs (map wordsOf lines) 0 × (pictures system start cs ≡ map rowSamples rows)
-    × (allPackets cs ≡ ks) × (length cs ≤ mostLines) × Whole system lines
+    (system fall start : ℕ) (rows lines : List (List ℕ)) (ks : List Packets) → freshOf system start .number ≡ 0
+    → Recorded fall (freshOf system start .walk) rows ks lines
+    → (cs : List Content) × Recording system fall start cs (map wordsOf lines) 0 × (picturesOf (linesOf system fall start cs) ≡ map rowSamples rows)
+    × (packetsIn (linesOf system fall start cs) ≡ ks) × (length cs ≤ mostLines) × Whole system lines
 
 -- Extracting a recording, damaged in at most one bit of each code, gives the row of every V = 0 line and the packets of every line
 -- (`recording-extracted`).
 abbrev pub RecordingExtracted : Type 0
 RecordingExtracted =
-    (system start altered : ℕ) (cs : List Content) (lines : List (List ℕ)) → freshOf system start .number ≡ 0
-    → Recording system start cs (map wordsOf lines) altered → length cs ≤ mostLines → Whole system lines
+    (system fall start altered : ℕ) (cs : List Content) (lines : List (List ℕ)) → freshOf system start .number ≡ 0
+    → Recording system fall start cs (map wordsOf lines) altered → length cs ≤ mostLines → Whole system lines
     → _≡_ {A = Extracted} (extractAll (freshOf system start .walk) lines)
     (record {
-      rows = map rowOf (pictures system start cs);
-      packets = allPackets cs;
+      rows = map rowOf (picturesOf (linesOf system fall start cs));
+      packets = packetsIn (linesOf system fall start cs);
       number = 0;
       place = 0;
-      walk = walkAfter system start cs altered;
+      walk = walkBehind system start (linesOf system fall start cs) altered;
     })
 
 -- So the rows and the packets that went in come out, byte for byte, of the recording and of every copy of it that is damaged in at most one bit
 -- of each code (`rows-back`).
 abbrev pub RowsBack : Type 0
 RowsBack =
-    (system start : ℕ) (rows lines : List (List ℕ)) (ks : List Packets) → freshOf system start .number ≡ 0
-    → Recorded (freshOf system start .walk) rows ks lines
-    → (cs : List Content) × Recording system start cs (map wordsOf lines) 0 × Whole system lines
-    × ((altered : ℕ) (copy : List (List ℕ)) → Recording system start cs (map wordsOf copy) altered → Whole system copy
+    (system fall start : ℕ) (rows lines : List (List ℕ)) (ks : List Packets) → freshOf system start .number ≡ 0
+    → Recorded fall (freshOf system start .walk) rows ks lines
+    → (cs : List Content) × Recording system fall start cs (map wordsOf lines) 0 × Whole system lines
+    × ((altered : ℕ) (copy : List (List ℕ)) → Recording system fall start cs (map wordsOf copy) altered → Whole system copy
     → _≡_ {A = Extracted} (extractAll (freshOf system start .walk) copy)
-    (record { rows = rows; packets = ks; number = 0; place = 0; walk = walkAfter system start cs altered }))
+    (record { rows = rows; packets = ks; number = 0; place = 0; walk = walkBehind system start (linesOf system fall start cs) altered }))

@@ -2,6 +2,7 @@
 use cases::MOST_BYTES;
 use cases::MOST_WORDS;
 use cases::Numbers;
+use cases::WALK;
 use cases::after_bytes;
 use cases::after_words;
 use cases::part;
@@ -15,11 +16,11 @@ use refusal::Refusal;
 
 // bytewise::judge.
 pub(crate) fn judge(payload: &[u8]) -> Numbers {
-    let end = after_bytes(payload, MOST_BYTES, 16, 20);
+    let end = after_bytes(payload, MOST_BYTES, WALK, WALK + 4);
     if payload.len() != end {
         return Numbers::none();
     }
-    let judgement = bytewise::judge(walk(payload, 0), part(payload, 20, end));
+    let judgement = bytewise::judge(walk(payload, 0), part(payload, WALK + 4, end));
     Numbers::of_judgement(judgement)
 }
 

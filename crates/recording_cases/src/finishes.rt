@@ -19,7 +19,7 @@ use finished::Meeting;
 const FINISHING: usize = RUN + 4;
 
 // The longest lines that come at once, and the longest index.
-const MOST_LINES: usize = 65_536;
+const MOST_LINES: usize = 131_072;
 
 fn finishing(payload: &[u8]) -> Finishing {
     Finishing {

@@ -13,6 +13,7 @@ mod totals;
 mod walks;
 
 use cases::Numbers;
+use cases::WALK;
 use cases::put_numbers;
 
 // Runs.
@@ -67,8 +68,8 @@ pub fn answer_case(kind: u32, payload: &[u8], answer: &mut [u8]) -> usize {
         62 => bytes::with_room_for_bytes(false, payload, answer),
         70 => bytes::with_room_for_words(true, payload, answer),
         71 => bytes::with_room_for_bytes(true, payload, answer),
-        80 => recorders::with_room(kind, 16, payload, answer),
-        81 => extractors::with_room(kind, 16, payload, answer),
+        80 => recorders::with_room(kind, WALK + 4, payload, answer),
+        81 => extractors::with_room(kind, WALK, payload, answer),
         86 => extractors::with_room(kind, runs::RUN, payload, answer),
         114 => recorders::with_room(kind, tapes::TAPE, payload, answer),
         131 => heads::with_room(payload, answer),

@@ -5,8 +5,10 @@ use crate::tapes::tape;
 use cases::MOST_BYTES;
 use cases::MOST_WORDS;
 use cases::Numbers;
+use cases::WALK;
 use cases::after_bytes;
 use cases::after_words;
+use cases::number;
 use cases::part;
 use cases::put_bytes;
 use cases::put_numbers;
@@ -18,7 +20,8 @@ use std::num::wrapping_add_usize;
 
 // programme::record.
 fn record(head: &[u8], row: &[u8], between: &[u16], active: &[u16], line: &mut [u8]) -> Numbers {
-    let judgement = programme::record(walk(head, 0), row, between, active, line);
+    let fall = number(head, WALK);
+    let judgement = programme::record(walk(head, 0), fall, row, between, active, line);
     Numbers::of_judgement(judgement)
 }
 

@@ -1,5 +1,6 @@
 // The crate confirmation: runs.
 use cases::Numbers;
+use cases::WALK;
 use cases::count;
 use cases::number;
 use cases::report;
@@ -10,8 +11,8 @@ use confirmation::Run;
 use system::Judgement;
 use system::PacketWords;
 
-// The bytes of the numbers that tell a run: system, start, its walk's four, number and place.
-pub(crate) const RUN: usize = 32;
+// The bytes of the numbers that tell a run: system, start, its walk's, number and place.
+pub(crate) const RUN: usize = WALK + 16;
 
 // The run that the first numbers of these bytes tell.
 pub(crate) fn run(payload: &[u8]) -> Run {
@@ -19,8 +20,8 @@ pub(crate) fn run(payload: &[u8]) -> Run {
         system: number(payload, 0),
         start: number(payload, 4),
         walk: walk(payload, 8),
-        number: number(payload, 24),
-        place: count(payload, 28),
+        number: number(payload, WALK + 8),
+        place: count(payload, WALK + 12),
     }
 }
 
@@ -56,15 +57,15 @@ fn judgement(payload: &[u8]) -> Judgement {
         report: report(payload, RUN + 8),
         walk: walk(payload, RUN + 24),
         packets: PacketWords {
-            between: count(payload, RUN + 40),
-            active: count(payload, RUN + 44),
+            between: count(payload, RUN + WALK + 24),
+            active: count(payload, RUN + WALK + 28),
         },
     }
 }
 
 // Run::judged.
 pub(crate) fn judged(payload: &[u8]) -> Numbers {
-    if payload.len() != RUN + 48 {
+    if payload.len() != RUN + WALK + 32 {
         return Numbers::none();
     }
     let before: Run = run(payload);

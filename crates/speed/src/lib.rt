@@ -8,13 +8,14 @@ ghost use Rattle.writer.specs.Write.{writeRefusal, lineAfter};
 ghost use Rattle.index.specs.Parts.{answerOf};
 ghost use Rattle.serial.specs.Calls.{codeAnswer, codeOutput, decodeAnswer, decodeOutput};
 use serial::State;
+use system::System525;
 use system::Walk;
 
 #[no_mangle]
 pub extern "C" fn speed_judge(system: u32, line: u32, words: &[u16]) -> u32
     ensures { λ r. ⌜ r ≡ judgedOf (freshWalk system line) (now (words .entry)) .number ⌝ }
 {
-    let walk = Walk::of(system, line, 0, 0);
+    let walk = Walk::of(system, line, 0, 0, 0);
     reader::judge(walk, words).number
 }
 
@@ -32,7 +33,7 @@ pub extern "C" fn speed_take(
     ensures cbs { λ r. ⌜ now (cb .exit) ≡ takenOf (freshWalk system line) (now (words .entry)) (record { y = now (y .entry); cb = now (cb .entry); cr = now (cr .entry) }) .cb ⌝ }
     ensures crs { λ r. ⌜ now (cr .exit) ≡ takenOf (freshWalk system line) (now (words .entry)) (record { y = now (y .entry); cb = now (cb .entry); cr = now (cr .entry) }) .cr ⌝ }
 {
-    let walk = Walk::of(system, line, 0, 0);
+    let walk = Walk::of(system, line, 0, 0, 0);
     reader::take(walk, words, y, cb, cr).number
 }
 
@@ -51,7 +52,7 @@ pub extern "C" fn speed_in_turn(
     ensures cbs { λ r. ⌜ now (cb .exit) ≡ inTurn (freshWalk system line) (now (words .entry)) (record { y = now (y .entry); cb = now (cb .entry); cr = now (cr .entry) }) .buffers .cb ⌝ }
     ensures crs { λ r. ⌜ now (cr .exit) ≡ inTurn (freshWalk system line) (now (words .entry)) (record { y = now (y .entry); cb = now (cb .entry); cr = now (cr .entry) }) .buffers .cr ⌝ }
 {
-    let walk = Walk::of(system, line, 0, 0);
+    let walk = Walk::of(system, line, 0, 0, 0);
     let judgement = reader::judge(walk, words);
     if judgement.number != 0 {
         return judgement.number;
@@ -70,10 +71,20 @@ pub extern "C" fn speed_write(
     active: &[u16],
     words: &mut [u16],
 ) -> u32
-    ensures answer { λ r. ⌜ r ≡ writeRefusal system line (record { samples = record { y = now (y .entry); cb = now (cb .entry); cr = now (cr .entry) }; packets = record { between = now (between .entry); active = now (active .entry) } }) (length (now (words .entry))) .number ⌝ }
-    ensures words { λ r. ⌜ now (words .exit) ≡ lineAfter system line (record { samples = record { y = now (y .entry); cb = now (cb .entry); cr = now (cr .entry) }; packets = record { between = now (between .entry); active = now (active .entry) } }) (now (words .entry)) ⌝ }
+    ensures answer { λ r. ⌜ r ≡ writeRefusal system line 20 (record { samples = record { y = now (y .entry); cb = now (cb .entry); cr = now (cr .entry) }; packets = record { between = now (between .entry); active = now (active .entry) } }) (length (now (words .entry))) .number ⌝ }
+    ensures words { λ r. ⌜ now (words .exit) ≡ lineAfter system line 20 (record { samples = record { y = now (y .entry); cb = now (cb .entry); cr = now (cr .entry) }; packets = record { between = now (between .entry); active = now (active .entry) } }) (now (words .entry)) ⌝ }
 {
-    writer::write(system, line, y, cb, cr, between, active, words).number
+    writer::write(
+        system,
+        line,
+        System525::LAST_FALL,
+        y,
+        cb,
+        cr,
+        between,
+        active,
+        words,
+    ).number
 }
 
 #[no_mangle]

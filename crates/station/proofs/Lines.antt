@@ -60,22 +60,22 @@ module _ (room : ℕ) (row : List ℕ) where
     is : r .tape ≡ tapedOf (atLine t) row (line .0) room
     is = line .1 ∙ ap (λ (x : Tape). tapedOf x row (line .0) size) there ∙ ap (tapedOf (atLine t) row (line .0)) same
 
-    takes : (b : Bool) → takesRow (at .tape .walk) ≡ b → takesRow (atLine t .walk) ≡ b
-    takes b e = ap (λ (x : Tape). takesRow (x .walk)) (sym there) ∙ e
+    takes : (b : Bool) → takesRow (at .tape .fall) (at .tape .walk) ≡ b → takesRow (atLine t .fall) (atLine t .walk) ≡ b
+    takes b e = ap (λ (x : Tape). takesRow (x .fall) (x .walk)) (sym there) ∙ e
 
-    pub onto-taken : takesRow (at .tape .walk) ≡ true → Onto room row n t (r .tape)
+    pub onto-taken : takesRow (at .tape .fall) (at .tape .walk) ≡ true → Onto room row n t (r .tape)
     onto-taken e = subst (λ (m : ℕ). Onto room row m t (r .tape)) (sym left) (row-taken (line .0) (takes true e) is)
 
-    pub onto-passed : takesRow (at .tape .walk) ≡ false → Onto room row k (r .tape) u → Onto room row n t u
+    pub onto-passed : takesRow (at .tape .fall) (at .tape .walk) ≡ false → Onto room row k (r .tape) u → Onto room row n t u
     onto-passed e rest = subst (λ (m : ℕ). Onto room row m t u) (sym left) (row-passed (line .0) (takes false e) is rest)
 
 -- the same without packets
 module _ (room : ℕ) (row : List ℕ) (t : Tape) (n k : ℕ) (left : n ≡ suc k) (on : bareTaped (atLine t) row room .number ≡ 0) where
-  taken : takesRow (atLine t .walk) ≡ true → onto room n t row nothingMore .tape ≡ bareTaped (atLine t) row room
+  taken : takesRow (atLine t .fall) (atLine t .walk) ≡ true → onto room n t row nothingMore .tape ≡ bareTaped (atLine t) row room
   unfolding onto
   taken takes = rw left (by-test (turnsAt t) (λ a. simp (a, eq-eqb _ _ (simp a at on), simp a at takes)) (λ a. simp (a, eq-eqb _ _ (simp a at on), simp a at takes)))
 
-  still-due : takesRow (atLine t .walk) ≡ false → onto room n t row nothingMore .tape ≡ onto room k (bareTaped (atLine t) row room) row nothingMore .tape
+  still-due : takesRow (atLine t .fall) (atLine t .walk) ≡ false → onto room n t row nothingMore .tape ≡ onto room k (bareTaped (atLine t) row room) row nothingMore .tape
   unfolding onto
   still-due takes = rw left (by-test (turnsAt t) (λ a. simp (a, eq-eqb _ _ (simp a at on), simp a at takes)) (λ a. simp (a, eq-eqb _ _ (simp a at on), simp a at takes)))
 
@@ -88,13 +88,13 @@ module _ (room size : ℕ) (same : size ≡ room) (row : List ℕ) (first here :
   on : bareTaped (atLine here) row room .number ≡ 0
   on = ap (λ (t : Tape). t .number) (sym step) ∙ bare .number
 
-  due : (b : Bool) → takesRow (at .tape .walk) ≡ b → takesRow (atLine here .walk) ≡ b
-  due b e = ap (λ (t : Tape). takesRow (t .walk)) (sym there) ∙ e
+  due : (b : Bool) → takesRow (at .tape .fall) (at .tape .walk) ≡ b → takesRow (atLine here .fall) (atLine here .walk) ≡ b
+  due b e = ap (λ (t : Tape). takesRow (t .fall) (t .walk)) (sym there) ∙ e
 
-  pub row-done : takesRow (at .tape .walk) ≡ true → r .tape ≡ onto room mostTurns first row nothingMore .tape
+  pub row-done : takesRow (at .tape .fall) (at .tape .walk) ≡ true → r .tape ≡ onto room mostTurns first row nothingMore .tape
   row-done e = bare .tape ∙ step ∙ sym (so-far ∙ taken room row here n k left on (due true e))
 
-  pub row-goes-on : takesRow (at .tape .walk) ≡ false → onto room mostTurns first row nothingMore .tape ≡ onto room k (r .tape) row nothingMore .tape
+  pub row-goes-on : takesRow (at .tape .fall) (at .tape .walk) ≡ false → onto room mostTurns first row nothingMore .tape ≡ onto room k (r .tape) row nothingMore .tape
   row-goes-on e =
       so-far ∙ still-due room row here n k left on (due false e)
       ∙ ap (λ (t : Tape). onto room k t row nothingMore .tape) (sym (bare .tape ∙ step))

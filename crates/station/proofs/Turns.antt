@@ -144,7 +144,7 @@ module _ (at r : Taping) where
   halted-lost lost end = simp lost end
 
   pub halted-refused : isLost (at .entries .next) ≡ false → (opened : Taping)
-      → opened ≡ record { tape = record { walk = at .tape .walk; most = at .tape .most; number = badEntry; place = 0 }; output = at .output; entries = at .entries; done = false; status = Done }
+      → opened ≡ record { tape = record { walk = at .tape .walk; most = at .tape .most; fall = at .tape .fall; number = badEntry; place = 0 }; output = at .output; entries = at .entries; done = false; status = Done }
       → r ≡ endedOf opened Refused → r ≡ haltedOf at
   unfolding haltedOf
   halted-refused left opened is end = simp left (end ∙ ap (λ (x : Taping). endedOf x Refused) is)

@@ -111,8 +111,8 @@ pub record OnLine (at : Taping) (row : List ℕ) (room : ℕ) (r : Taping) : Typ
 -- Lines up to the one that takes the row, at most n in all, each by the library's step with some packets: from a tape to the one behind them.
 pub data Onto (room : ℕ) (row : List ℕ) : ℕ → Tape → Tape → Type 0 where
   no-line-left : {t : Tape} → Onto room row zero t t
-  row-taken : {n : ℕ} {t u : Tape} (k : Packets) → takesRow (atLine t .walk) ≡ true → u ≡ tapedOf (atLine t) row k room → Onto room row (suc n) t u
-  row-passed : {n : ℕ} {t u v : Tape} (k : Packets) → takesRow (atLine t .walk) ≡ false → u ≡ tapedOf (atLine t) row k room → Onto room row n u v
+  row-taken : {n : ℕ} {t u : Tape} (k : Packets) → takesRow (atLine t .fall) (atLine t .walk) ≡ true → u ≡ tapedOf (atLine t) row k room → Onto room row (suc n) t u
+  row-passed : {n : ℕ} {t u v : Tape} (k : Packets) → takesRow (atLine t .fall) (atLine t .walk) ≡ false → u ≡ tapedOf (atLine t) row k room → Onto room row n u v
       → Onto room row (suc n) t v
 
 -- Lines to the end of a frame, at most n, each by the library's step with some packets: from a tape to the one that is not inside a frame.
@@ -129,7 +129,7 @@ endedOf at status = record { tape = at .tape; output = at .output; entries = at 
 abbrev pub refusedEntry : Taping → Taping
 refusedEntry at =
     record {
-      tape = record { walk = at .tape .walk; most = at .tape .most; number = badEntry; place = 0 };
+      tape = record { walk = at .tape .walk; most = at .tape .most; fall = at .tape .fall; number = badEntry; place = 0 };
       output = at .output;
       entries = at .entries;
       done = true;
@@ -142,4 +142,4 @@ haltedOf at = cond (isLost (at .entries .next)) (endedOf at Unread) (refusedEntr
 
 -- the awaited line may be written though no row is left
 abbrev pub mayFollow : Tape → Bool
-mayFollow t = eqb (t .number) 0 && (not (takesRow (t .walk)) && (turnsAt t || eqb (walkRefusal (t .walk) .number) 0))
+mayFollow t = eqb (t .number) 0 && (not (takesRow (t .fall) (t .walk)) && (turnsAt t || eqb (walkRefusal (t .walk) .number) 0))

@@ -62,6 +62,7 @@ fn halted(at: Taping) -> Taping
     let refused = Tape {
         walk,
         most: tape.most,
+        fall: tape.fall,
         number: Number::BAD_ENTRY,
         place: 0,
     };
@@ -137,7 +138,7 @@ fn put_row(first: Taping, row: &[u8], line: &mut [u8], folder: &[u8]) -> Taping
             return at;
         }
         let here = at.tape;
-        let is_taken = programme::takes_row(here.walk);
+        let is_taken = programme::takes_row(here.walk, here.fall);
         taping = put_due(at, row, line);
         if taping.done {
             return taping;
@@ -180,7 +181,7 @@ fn may_follow(tape: Tape) -> bool
     if tape.number != 0 {
         return false;
     }
-    if programme::takes_row(walk) {
+    if programme::takes_row(walk, tape.fall) {
         return false;
     }
     if tape.turns() {
@@ -307,10 +308,17 @@ fn record_with(tape: Tape, folder: &[u8], packets: &[u8]) -> u32 {
     record_rows(open(tape, STANDARD, entries), folder, packets)
 }
 
-// Records standard input: to standard output, or in a folder, where one is named, in recordings of at most so many lines; with the packets of a
-// file, where one is named. Answers the exit status.
-pub fn record_input(system: u32, start_line: u32, folder: &[u8], most: u32, packets: &[u8]) -> u32 {
-    let tape = Tape::begin(system, start_line, most);
+// Records standard input: to standard output, or in a folder, where one is named, in recordings of at most so many lines, V of whose first
+// fields falls at this line; with the packets of a file, where one is named. Answers the exit status.
+pub fn record_input(
+    system: u32,
+    start_line: u32,
+    folder: &[u8],
+    most: u32,
+    fall: u32,
+    packets: &[u8],
+) -> u32 {
+    let tape = Tape::begin(system, start_line, most, fall);
     let first = open(tape, STANDARD, no_entries());
     if tape.number != 0 {
         return tell(first.ended(Status::Refused), packets);

@@ -4,8 +4,11 @@ use crate::entries::Next;
 use crate::taping::Taping;
 use console::Status;
 use libc::STDERR_FILENO;
+use programme::Tape;
 use refusal::Number;
-use system::Walk;
+use std::num::wrapping_sub_u32;
+use system::System;
+use system::System525;
 
 fn say(text: &[u8]) -> bool {
     io::write_all(STDERR_FILENO, text)
@@ -31,7 +34,7 @@ fn say_over(has_packets: bool) -> bool {
 fn say_words(number: u32, place: usize, has_packets: bool) -> bool {
     match number {
         1 => say(b"the system is neither 525 nor 625\n"),
-        2 => say(b"the start line is not one of the system\n"),
+        2 => say(b"the start line is not one of the system, or --fall of 525 is not 10 to 20\n"),
         3 => say_length(place),
         4 => say(b"10000000 lines are written, and --into FOLDER would go on in a next file\n"),
         5 => say_over(has_packets),
@@ -74,21 +77,43 @@ fn say_entry(packets: &[u8], entries: Entries) {
     }
 }
 
+// Where V falls in the frames of 525 that a tape may be compared with: its own, and the table's where it is of 625.
+fn fall_in_525(tape: Tape) -> u32 {
+    let walk = tape.walk;
+    match system::system_of(walk.system) {
+        System::Lines525 => tape.fall,
+        System::Lines625 => System525::LAST_FALL,
+    }
+}
+
+// How many rows a frame of 525 has: one for each line but those of both fields before V falls. A tape that began falls at 10 to 20.
+fn frame_rows(fall: u32) -> u32 {
+    let before = wrapping_sub_u32(fall, 1);
+    wrapping_sub_u32(wrapping_sub_u32(System525::LINE_COUNT, before), before)
+}
+
 // Says that the rows ended inside a frame.
-fn say_part(walk: Walk) {
+fn say_part(tape: Tape) {
+    let walk = tape.walk;
     console::say(
         STDERR_FILENO,
         b"record: the last frame is not whole: line ",
         walk.line as u64,
     );
     console::say(STDERR_FILENO, b" of ", walk.system as u64);
-    say(b" is awaited (a frame of 525 has 487 rows, one of 625 has 576)\n");
+    console::say(
+        STDERR_FILENO,
+        b" is awaited (a frame of 525 has ",
+        frame_rows(fall_in_525(tape)) as u64,
+    );
+    say(b" rows, one of 625 has 576)\n");
 }
 
 // Says where a tape that ended well did so inside a frame.
-fn say_end(status: Status, walk: Walk) {
+fn say_end(status: Status, tape: Tape) {
+    let walk = tape.walk;
     if status.code() == 0 && walk.lines != 0 && walk.line != 1 {
-        say_part(walk);
+        say_part(tape);
     }
 }
 
@@ -122,7 +147,7 @@ pub(crate) fn tell(taping: Taping, packets: &[u8]) -> u32 {
     let status = taping.status;
     say_refusal(taping, packets);
     say_failure(taping, packets);
-    say_end(status, tape.walk);
+    say_end(status, tape);
     status.code()
 }
 

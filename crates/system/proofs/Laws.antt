@@ -8,7 +8,7 @@ use borrow.Author.Tests.{lt-ltb, le-ltb, le-leb, lt-leb, leb-true, leb-false, lt
 use Rattle.refusal.specs.declared.Refusal.{Refusal}
 use Rattle.refusal.specs.Numbers.{noSystem, noLine, wrongLength, badCounts}
 use Rattle.refusal.specs.Answer.{none, orElse}
-use Rattle.refusal.proofs.Cases.{by-cond, by-test, and-true, or-neither}
+use Rattle.refusal.proofs.Cases.{by-cond, by-test, not-false, and-true, or-neither}
 use Rattle.refusal.proofs.Firsts.{orElse-accepted, orElse-refused, orElse-none, same-number, not-made, length-due}
 use Rattle.timing.specs.declared.CodeReport.{CodeReport}
 use Rattle.timing.specs.declared.CodeReport.the-variants.{Clean, Repaired}
@@ -20,9 +20,9 @@ use Rattle.system.specs.declared.due.Due.{Due}
 use Rattle.system.specs.declared.walk.Walk.{Walk}
 use Rattle.system.specs.declared.walk.PacketWords.{PacketWords}
 use Rattle.system.specs.declared.walk.Judgement.{Judgement}
-use Rattle.system.specs.Figures.{lineLength, savOffset, activeOffset, lineCount, between, isSystem, systemOf, nextLine}
-use Rattle.system.specs.Due.{dueOf, flag, flagsOf}
-use Rattle.system.specs.Walk.{mostLines, isLine, namedRefusal, walkRefusal, freshWalk, freshOf, standingRefusal, dueBy, advancedOf, movedOf}
+use Rattle.system.specs.Figures.{lineLength, savOffset, activeOffset, lineCount, between, isSystem, systemOf, isFall, nextLine}
+use Rattle.system.specs.Due.{dueWith, flag, flagsOf}
+use Rattle.system.specs.Walk.{mostLines, isLine, namedRefusal, writtenRefusal, walkRefusal, freshWalk, freshOf, standingRefusal, dueBy, advancedOf, movedOf}
 use Rattle.system.specs.Judgement.{refusedAt, acceptedAt, judgementOf}
 
 -- ---- the figures fit each other, and are in range
@@ -112,6 +112,25 @@ module _ (number line : ℕ) where
       → freshOf number line ≡ record { number = 0; place = 0; walk = freshWalk number line }
   fresh-accepted a b = fresh-named (same-number (named-accepted a b))
 
+-- ---- the numbers of a line that is to be written
+module _ (number line fall : ℕ) where
+  pub record WrittenNamed : Type 0 where
+    pub a-system : isSystem number ≡ true
+    pub a-line : isLine number line ≡ true
+    pub a-fall : isFall (systemOf number) fall ≡ true
+
+  pub written-named : WrittenNamed → writtenRefusal number line fall ≡ none
+  unfolding writtenRefusal
+  written-named w = orElse-accepted (namedRefusal number line) _ (same-number (named-accepted number line (w .a-system) (w .a-line))) ∙ simp (w .a-fall)
+
+  -- and the other way round
+  pub accepted-written : writtenRefusal number line fall .number ≡ 0 → WrittenNamed
+  unfolding writtenRefusal
+  accepted-written e =
+      let both = orElse-none (namedRefusal number line) _ e in
+      let named = accepted-named number line (both .0) in
+      record { a-system = named .a-system; a-line = named .a-line; a-fall = not-false _ (not-made _ noLine 0 (λ z. omega arith) (both .1)) }
+
 -- ---- a walk that refuses no line
 pub record Good (w : Walk) : Type 0 where
   pub system : isSystem (w .system) ≡ true
@@ -151,7 +170,7 @@ module _ (w : Walk) where
 
   -- what is due at it is of its system
   pub due-system : (fourth : ℕ) → dueBy w fourth .system ≡ systemOf (w .system)
-  unfolding dueBy dueOf
+  unfolding dueBy dueWith
   due-system fourth = refl
 
   -- with room for one more its counts do not wrap

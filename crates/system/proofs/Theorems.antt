@@ -1,8 +1,8 @@
 -- The promises on fresh walks and walks, of the definitions that the calls' contracts cite. Assumes nothing.
-use Prim.Native.Nat.{ℕ, _*_}
+use Prim.Native.Nat.{ℕ, _*_, _<_}
 use mathlib.Core.Path.{_≡_, sym, ap, subst, _∙_}
 use mathlib.Core.Bool.{true, not, true≢false, _||_}
-use mathlib.Core.Logic.{inl, inr, ⊎-elim}
+use mathlib.Core.Logic.{_⊎_, inl, inr, ⊎-elim}
 use native.Mathlib.Omega.{arith}
 use lib.Dec.{ltb, leb, eqb}
 use borrow.Author.Tests.{lt-ltb, le-leb, lt-leb, leb-true, leb-false, ltb-true, eq-eqb, eqb-true, ne-eqb}
@@ -20,10 +20,10 @@ use Rattle.system.specs.declared.walk.Fresh.{Fresh}
 use Rattle.system.specs.declared.walk.PacketWords.{PacketWords}
 use Rattle.system.specs.declared.walk.Judgement.{Judgement}
 use Rattle.system.specs.declared.due.Due.{Due}
-use Rattle.system.specs.Figures.{systemNumber, lineCount, isSystem, systemOf}
-use Rattle.system.specs.Walk.{mostLines, isLine, systemRefusal, numberRefusal, namedRefusal, countRefusal, walkRefusal, freshOf, standingRefusal, movedOf}
+use Rattle.system.specs.Figures.{systemNumber, lineCount, between, isSystem, systemOf, isFall}
+use Rattle.system.specs.Walk.{mostLines, isLine, systemRefusal, numberRefusal, namedRefusal, writtenRefusal, countRefusal, walkRefusal, freshOf, standingRefusal, movedOf}
 use Rattle.system.specs.Judgement.{refusedAt, movedAt}
-use Rattle.system.specs.Refusals.{NoSystem, NoLine, BadCounts, namedRefusals, walkRefusals, standingRefusals}
+use Rattle.system.specs.Refusals.{NoSystem, NoLine, NoFall, BadCounts, namedRefusals, writtenRefusals, walkRefusals, standingRefusals}
 use Rattle.system.proofs.Laws.{between-both}
 
 -- ---- each test is its condition
@@ -80,6 +80,34 @@ module _ (number line : ℕ) where
   pub named-decides : Decides (namedRefusals number line)
   named-decides = decides-before _ _ (decides-when (NoSystem number) noSystem 0) (decides-when (NoLine number line) noLine 0)
 
+-- and where a line is to be written
+no-fall : (number fall : ℕ) → not (isFall (systemOf number) fall) ≡ true → NoFall number fall
+unfolding systemOf isFall
+no-fall number fall e =
+    by-test (eqb number (systemNumber Lines525))
+    (λ t. (eqb-true number _ t, missed (sym (simp t) ∙ e))) (λ f. absurd (true≢false (sym (sym (simp f) ∙ e))))
+  where
+    missed : not (between 10 20 fall) ≡ true → (fall < 10) ⊎ (20 < fall)
+    missed n =
+        by-test (leb 10 fall)
+        (λ l. by-test (leb fall 20) (λ m. absurd (true≢false (sym (between-both 10 20 fall (leb-true 10 fall l) (leb-true fall 20 m)) ∙ not-true _ n))) (λ m. inr (leb-false fall 20 m)))
+        (λ l. inl (leb-false 10 fall l))
+
+fall-none : (number fall : ℕ) → NoFall number fall → not (isFall (systemOf number) fall) ≡ true
+unfolding systemOf isFall
+fall-none number fall (is, inl low) = simp (eq-eqb number _ is, lt-leb _ _ low)
+fall-none number fall (is, inr high) = by-test (leb 10 fall) (λ l. simp (eq-eqb number _ is, l, lt-leb _ _ high)) (λ l. simp (eq-eqb number _ is, l))
+
+module _ (number line fall : ℕ) where
+  pub written-exact : Keeps (writtenRefusals number line fall) (writtenRefusal number line fall)
+  unfolding writtenRefusal
+  written-exact =
+      keeps-before _ _ (namedRefusal number line) _ (named-exact number line)
+      (keeps-when _ (NoFall number fall) noLine 0 (no-fall number fall) (fall-none number fall) (λ z. omega arith))
+
+  pub written-decides : Decides (writtenRefusals number line fall)
+  written-decides = decides-before _ _ (named-decides number line) (decides-when (NoFall number fall) noLine 0)
+
 module _ (w : Walk) where
   pub walk-exact : Keeps (walkRefusals w) (walkRefusal w)
   unfolding walkRefusal namedRefusal
@@ -118,7 +146,7 @@ fresh-refusal number start =
 
 -- "its refusal returns a walk all zero"
 pub fresh-refused-zero : (number start : ℕ) → (freshOf number start .number ≡ 0 → ⊥)
-    → freshOf number start .walk ≡ record { system = 0; line = 0; lines = 0; repairs = 0 }
+    → freshOf number start .walk ≡ record { system = 0; line = 0; lines = 0; repairs = 0; fallen = 0 }
 unfolding freshOf
 fresh-refused-zero number start refused =
     by-test (eqb (namedRefusal number start .number) 0)

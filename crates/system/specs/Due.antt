@@ -4,15 +4,20 @@ use mathlib.Core.Bool.{Bool, cond}
 use Rattle.system.specs.declared.System.{System}
 use Rattle.system.specs.declared.due.Due.{Due}
 use Rattle.system.specs.declared.due.FillWords.{FillWords}
-use Rattle.system.specs.Figures.{vOf, fOf}
+use Rattle.system.specs.Figures.{vWritten, fOf}
 
 -- "Fill, by offset in the line: 512 at even, 64 at odd offsets."
 abbrev pub blankFill : FillWords
 blankFill = record { even = 512; odd = 64 }
 
--- "F and V belong to the line number and hold for its EAV and its SAV": for all who write
-unfoldable pub dueOf : System → ℕ → Due
-dueOf s line = record { system = s; f = fOf s line; v = vOf s line; fill = blankFill }
+-- "F and V .. hold for its EAV and its SAV": what is due in the line with this number where this is its V
+unfoldable pub dueWith : System → ℕ → Bool → Due
+dueWith s line v = record { system = s; f = fOf s line; v = v; fill = blankFill }
+
+-- where V falls at this line: for all who write
+unfoldable pub dueOf : System → ℕ → ℕ → Due
+unfolding dueWith
+dueOf s line fall = dueWith s line (vWritten s line fall)
 
 -- a flag as a bit
 abbrev pub flag : Bool → ℕ

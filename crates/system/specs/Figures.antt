@@ -1,6 +1,6 @@
 -- Document 01, "Numbers and layout": the figures of each system, and F and V of a line.
 use Prim.Native.Nat.{ℕ, _+_}
-use mathlib.Core.Bool.{Bool, cond, _&&_, _||_}
+use mathlib.Core.Bool.{Bool, true, false, cond, _&&_, _||_}
 use lib.Dec.{ltb, leb, eqb}
 use Rattle.system.specs.declared.System.{System}
 use Rattle.system.specs.declared.System.the-variants.{Lines525, Lines625}
@@ -36,6 +36,27 @@ between first last n = leb first n && leb n last
 unfoldable pub vOf : System → ℕ → Bool
 vOf Lines525 n = between 1 19 n || between 264 282 n
 vOf Lines625 n = between 624 625 n || (between 1 22 n || between 311 335 n)
+
+-- Document 02, L1: "In 525, V may fall at any line from 10 to 20 and 273 to 283": the lines on which it may have fallen before the table
+-- has it
+unfoldable pub mayFall : System → ℕ → Bool
+mayFall Lines525 n = between 10 19 n || between 273 282 n
+mayFall Lines625 n = false
+
+-- "it is looked at only on lines 11 to 19 and 274 to 282": the lines on which the walk's record of the line before counts
+unfoldable pub looksBack : System → ℕ → Bool
+looksBack Lines525 n = between 11 19 n || between 274 282 n
+looksBack Lines625 n = false
+
+-- "The writer is told the first field's fall line ..; outside 10 to 20 is refusal 2; 625 ignores it."
+unfoldable pub isFall : System → ℕ → Bool
+isFall Lines525 fall = between 10 20 fall
+isFall Lines625 fall = true
+
+-- V of a line that is written, where V of the first field falls at this line, "the second's being 263 later"
+unfoldable pub vWritten : System → ℕ → ℕ → Bool
+vWritten Lines525 n fall = (leb 1 n && ltb n fall) || (leb 264 n && ltb n (fall + 263))
+vWritten Lines625 n fall = vOf Lines625 n
 
 -- "F = 1: 266-525, 1-3 / 313-625. All else is 0."
 unfoldable pub fOf : System → ℕ → Bool

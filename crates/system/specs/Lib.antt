@@ -1,5 +1,6 @@
 pub mod Figures
 pub mod Due
 pub mod Walk
+pub mod Before
 pub mod Judgement
 pub mod Refusals

@@ -25,6 +25,14 @@ BadCounts w = (mostLines ≤ w .lines) ⊎ (2 * w .lines < w .repairs)
 abbrev pub namedRefusals : ℕ → ℕ → Row
 namedRefusals number line = when (NoSystem number) noSystem 0 before when (NoLine number line) noLine 0
 
+-- "outside 10 to 20 is refusal 2; 625 ignores it"
+abbrev pub NoFall : ℕ → ℕ → Type 0
+NoFall number fall = (number ≡ systemNumber Lines525) × ((fall < 10) ⊎ (20 < fall))
+
+-- and where a line is to be written
+abbrev pub writtenRefusals : ℕ → ℕ → ℕ → Row
+writtenRefusals number line fall = namedRefusals number line before when (NoFall number fall) noLine 0
+
 -- what refuses every line at a walk: "1, 2, 4"
 abbrev pub walkRefusals : Walk → Row
 walkRefusals w =

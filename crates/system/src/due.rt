@@ -1,7 +1,7 @@
 // What is due in a line: its system, its F and V, and its fill.
 ghost use mathlib.Core.Path.{_≡_};
 ghost use Prim.Native.Nat.{_≤_};
-ghost use Rattle.system.specs.Due.{flag, dueOf, flagsOf};
+ghost use Rattle.system.specs.Due.{flag, dueWith, dueOf, flagsOf};
 use crate::System;
 
 // Fill by offset in the line: a word for even and a word for odd offsets.
@@ -28,18 +28,25 @@ fn bit(flagged: bool) -> u32
 }
 
 impl Due {
-    // What is due in the line with this number, for all who write.
-    pub fn of(system: System, line: u32) -> Due
-        ensures { λ r. ⌜ r ≡ dueOf system line ⌝ }
+    // What is due in the line with this number, of this V.
+    pub(crate) fn with(system: System, line: u32, v: bool) -> Due
+        ensures { λ r. ⌜ r ≡ dueWith system line v ⌝ }
     {
         let f = system.f(line);
-        let v = system.v(line);
         Due {
             system,
             f,
             v,
             fill: FillWords { even: 512, odd: 64 },
         }
+    }
+
+    // What is due in the line with this number where V of the first field falls at this line, for all who write.
+    pub fn of(system: System, line: u32, fall: u32) -> Due
+        ensures { λ r. ⌜ r ≡ dueOf system line fall ⌝ }
+    {
+        let v = system.v_written(line, fall);
+        Due::with(system, line, v)
     }
 
     // F, V, H of the line's EAV, where H is 1, or of its SAV.

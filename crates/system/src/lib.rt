@@ -12,8 +12,8 @@ pub use walk::fresh_walk;
 pub use walk::repairs;
 ghost use mathlib.Core.Path.{_≡_};
 ghost use Rattle.system.specs.declared.System.the-variants.{Lines525, Lines625};
-ghost use Rattle.system.specs.Figures.{between, isSystem, systemOf, lineLength, savOffset, activeOffset, lineCount, vOf, fOf, nextLine};
-ghost use Rattle.system.specs.Walk.{namedRefusal, freshOf};
+ghost use Rattle.system.specs.Figures.{between, isSystem, systemOf, lineLength, savOffset, activeOffset, lineCount, vOf, mayFall, looksBack, isFall, vWritten, fOf, nextLine};
+ghost use Rattle.system.specs.Walk.{namedRefusal, writtenRefusal, freshOf};
 use refusal::Number;
 use refusal::Refusal;
 
@@ -35,6 +35,11 @@ impl System525 {
 
     pub const LINE_COUNT: u32 = 525;
 
+    // The first and the last line at which V of the first field may fall; the table has it fall at the last.
+    pub const FIRST_FALL: u32 = 10;
+
+    pub const LAST_FALL: u32 = 20;
+
     // V of a line: 1 on lines 1-19 and 264-282.
     pub fn v(line: u32) -> bool
         ensures { λ r. ⌜ r ≡ vOf Lines525 line ⌝ }
@@ -43,6 +48,42 @@ impl System525 {
             return true;
         }
         within(264, 282, line)
+    }
+
+    // V of a line that is written: 1 until the first field's fall line, and from line 264 until 263 lines behind it.
+    fn v_written(line: u32, fall: u32) -> bool
+        ensures { λ r. ⌜ r ≡ vWritten Lines525 line fall ⌝ }
+    {
+        if line < 1 {
+            return false;
+        }
+        if line < fall {
+            return true;
+        }
+        if line < 264 {
+            return false;
+        }
+        line - 263 < fall
+    }
+
+    // Whether V may have fallen on a line before the table has it.
+    fn may_fall(line: u32) -> bool
+        ensures { λ r. ⌜ r ≡ mayFall Lines525 line ⌝ }
+    {
+        if within(10, 19, line) {
+            return true;
+        }
+        within(273, 282, line)
+    }
+
+    // Whether the walk's record of the line before counts on a line.
+    fn looks_back(line: u32) -> bool
+        ensures { λ r. ⌜ r ≡ looksBack Lines525 line ⌝ }
+    {
+        if within(11, 19, line) {
+            return true;
+        }
+        within(274, 282, line)
     }
 
     // F of a line: 1 on lines 266-525 and 1-3.
@@ -157,6 +198,46 @@ impl System {
         }
     }
 
+    // V of a line that is written, where V of the first field falls at this line: 625 has no choice.
+    pub fn v_written(self, line: u32, fall: u32) -> bool
+        ensures { λ r. ⌜ r ≡ vWritten self line fall ⌝ }
+    {
+        match self {
+            System::Lines525 => System525::v_written(line, fall),
+            System::Lines625 => System625::v(line),
+        }
+    }
+
+    // Whether V may have fallen on a line before the table has it.
+    pub(crate) fn may_fall(self, line: u32) -> bool
+        ensures { λ r. ⌜ r ≡ mayFall self line ⌝ }
+    {
+        match self {
+            System::Lines525 => System525::may_fall(line),
+            System::Lines625 => false,
+        }
+    }
+
+    // Whether the walk's record of the line before counts on a line.
+    pub(crate) fn looks_back(self, line: u32) -> bool
+        ensures { λ r. ⌜ r ≡ looksBack self line ⌝ }
+    {
+        match self {
+            System::Lines525 => System525::looks_back(line),
+            System::Lines625 => false,
+        }
+    }
+
+    // Whether V of the first field may fall at this line.
+    fn is_fall(self, fall: u32) -> bool
+        ensures { λ r. ⌜ r ≡ isFall self fall ⌝ }
+    {
+        match self {
+            System::Lines525 => within(System525::FIRST_FALL, System525::LAST_FALL, fall),
+            System::Lines625 => true,
+        }
+    }
+
     pub fn f(self, line: u32) -> bool
         ensures { λ r. ⌜ r ≡ fOf self line ⌝ }
     {
@@ -206,6 +287,23 @@ pub fn named_refusal(system: u32, line: u32) -> Refusal
         };
     }
     if !within(1, system_of(system).line_count(), line) {
+        return Refusal {
+            number: Number::NO_LINE,
+            place: 0,
+        };
+    }
+    Refusal::NONE
+}
+
+// What refuses the numbers of a line that is to be written: 1, 2, and 2 for a fall line outside 10 to 20, which 625 ignores.
+pub fn written_refusal(system: u32, line: u32, fall: u32) -> Refusal
+    ensures { λ r. ⌜ r ≡ writtenRefusal system line fall ⌝ }
+{
+    let named = named_refusal(system, line);
+    if named.number != 0 {
+        return named;
+    }
+    if !system_of(system).is_fall(fall) {
         return Refusal {
             number: Number::NO_LINE,
             place: 0,

@@ -4,23 +4,28 @@ ghost use Prim.Native.Nat.{_*_, _≤_};
 ghost use Rattle.timing.specs.Report.{repairsIn, repairsOf};
 ghost use Rattle.system.specs.declared.System.the-variants.{Lines625};
 ghost use Rattle.system.specs.Figures.{lineLength};
-ghost use Rattle.system.specs.Walk.{walkRefusal, standingRefusal, freshOf, dueBy, lineWords, lineBytes, movedOf};
+ghost use Rattle.system.specs.Walk.{walkRefusal, standingRefusal, freshOf, vSeen, hasFallen, vDue, dueBy, lineWords, lineBytes, fallenBy, movedOf};
 ghost use Rattle.system.specs.Judgement.{refusedAt, movedAt};
 use crate::Due;
+use crate::System;
 use crate::named_refusal;
 use crate::system_of;
 use refusal::Number;
 use refusal::Refusal;
 use std::num::wrapping_add_u32;
 use timing::CodeReport;
+use timing::Correction;
 use timing::Report;
+use timing::correct;
 
-// Where a reader of consecutive lines stands: the system's number, the awaited line, and what was counted so far.
+// Where a reader of consecutive lines stands: the system's number, the awaited line, what was counted so far, and whether V was 0 in the last
+// accepted line, 0 for no, else yes.
 pub struct Walk {
     pub system: u32,
     pub line: u32,
     pub lines: u32,
     pub repairs: u32,
+    pub fallen: u32,
 }
 
 // The answer to a fresh walk: a refusal returns a walk all zero.
@@ -39,13 +44,13 @@ pub fn fresh_walk(system: u32, start: u32) -> Fresh
         return Fresh {
             number: refusal.number,
             place: 0,
-            walk: Walk::of(0, 0, 0, 0),
+            walk: Walk::of(0, 0, 0, 0, 0),
         };
     }
     Fresh {
         number: 0,
         place: 0,
-        walk: Walk::of(system, start, 0, 0),
+        walk: Walk::of(system, start, 0, 0, 0),
     }
 }
 
@@ -67,18 +72,63 @@ pub fn repairs(report: Report) -> u32
     repairs_in(eav) + repairs_in(sav)
 }
 
+// V of a corrected code; where there is none the line is refused, and the table's 1 stands.
+fn v_seen(correction: Correction) -> bool
+    ensures { λ r. ⌜ r ≡ vSeen correction ⌝ }
+{
+    match correction {
+        Correction::Clean { fvh } => fvh / 2 % 2 == 1,
+        Correction::Repaired { fvh, bit } => fvh / 2 % 2 == 1,
+        Correction::Refused { number } => true,
+    }
+}
+
+// Whether V has fallen before a line on which the record counts.
+fn has_fallen(system: System, line: u32, fallen: u32) -> bool
+    ensures { λ r. ⌜ r ≡ hasFallen system line fallen ⌝ }
+{
+    if system.looks_back(line) {
+        return fallen != 0;
+    }
+    false
+}
+
+// V that is due in a line: the table's, but where it may fall 0 after the record says so, and else the one of its EAV.
+fn v_due(system: System, line: u32, fallen: u32, fourth: u16) -> bool
+    ensures { λ r. ⌜ r ≡ vDue system line fallen fourth ⌝ }
+{
+    if !system.may_fall(line) {
+        return system.v(line);
+    }
+    if has_fallen(system, line, fallen) {
+        return false;
+    }
+    v_seen(correct(fourth))
+}
+
+// What is recorded of an accepted line: whether its V was 0.
+fn fallen_by(v: bool) -> u32
+    ensures { λ r. ⌜ r ≡ fallenBy v ⌝ }
+{
+    if v {
+        return 0;
+    }
+    1
+}
+
 impl Walk {
     pub const MOST_LINES: u32 = 10_000_000;
 
     // The walk that holds these numbers.
-    pub fn of(system: u32, line: u32, lines: u32, repairs: u32) -> Walk
-        ensures { λ r. ⌜ r ≡ record { system = system; line = line; lines = lines; repairs = repairs } ⌝ }
+    pub fn of(system: u32, line: u32, lines: u32, repairs: u32, fallen: u32) -> Walk
+        ensures { λ r. ⌜ r ≡ record { system = system; line = line; lines = lines; repairs = repairs; fallen = fallen } ⌝ }
     {
         Walk {
             system,
             line,
             lines,
             repairs,
+            fallen,
         }
     }
 
@@ -135,12 +185,13 @@ impl Walk {
         2 * self.line_words()
     }
 
-    // What is due in the line that is lent at this walk, by the fourth word of its EAV, for all who read. Here the awaited line's number alone
-    // decides.
+    // What is due in the line that is lent at this walk, by the fourth word of its EAV, for all who read.
     pub fn due(self, fourth: u16) -> Due
         ensures { λ r. ⌜ r ≡ dueBy self fourth ⌝ }
     {
-        Due::of(system_of(self.system), self.line)
+        let system = system_of(self.system);
+        let v = v_due(system, self.line, self.fallen, fourth);
+        Due::with(system, self.line, v)
     }
 
     // The walk after an accepted line in which this was due, with this report. Counts are of 32 bits: a walk that refuses no line has room.
@@ -155,6 +206,7 @@ impl Walk {
             next,
             wrapping_add_u32(self.lines, 1),
             wrapping_add_u32(self.repairs, count),
+            fallen_by(due.v),
         )
     }
 }

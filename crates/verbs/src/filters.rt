@@ -7,6 +7,7 @@ use crate::options::options_wrong;
 use crate::options::read_options;
 use crate::wrong;
 use std::num::wrapping_add_usize;
+use system::System525;
 use system::Walk;
 
 // The most lines of a recording that is never cut: past the limit it is refused.
@@ -29,7 +30,7 @@ pub(crate) fn code(verb: &[u8], what: &[u8], is_coding: bool) -> u32 {
 }
 
 // Records into the folder that an argument names, with the packets of a file, where one is named.
-fn record_into(system: u32, start: u32, index: usize, most: u32, packets: &[u8]) -> u32 {
+fn record_into(system: u32, start: u32, index: usize, most: u32, fall: u32, packets: &[u8]) -> u32 {
     let mut folder = io::buffer();
     let length = os::arg(index, &mut folder);
     if os::errno() != 0 {
@@ -41,15 +42,15 @@ fn record_into(system: u32, start: u32, index: usize, most: u32, packets: &[u8])
         return wrong::missing(b"record");
     }
     console::say_waits(b"record", b"v210 rows");
-    station::record_input(system, start, &folder[..length], most, packets)
+    station::record_input(system, start, &folder[..length], most, fall, packets)
 }
 
-fn record_out(system: u32, start: u32, packets: &[u8]) -> u32 {
+fn record_out(system: u32, start: u32, fall: u32, packets: &[u8]) -> u32 {
     if console::is_terminal_refused(b"record") {
         return 2;
     }
     console::say_waits(b"record", b"v210 rows");
-    station::record_input(system, start, &[], UNCUT, packets)
+    station::record_input(system, start, &[], UNCUT, fall, packets)
 }
 
 // The most frames of a recording that an argument gives; where none does, more than any has lines.
@@ -60,10 +61,19 @@ fn frames_asked(index: usize) -> u32 {
     number(index)
 }
 
+// The line where V of the first field falls that an argument gives; where none does, the table's.
+fn fall_asked(index: usize) -> u32 {
+    if index == 0 {
+        return System525::LAST_FALL;
+    }
+    number(index)
+}
+
 // Records where the options say, with the packets of a file, where one is named.
 fn record_to(options: Options, system: u32, start: u32, packets: &[u8]) -> u32 {
+    let fall = fall_asked(options.fall);
     if options.folder == 0 {
-        return record_out(system, start, packets);
+        return record_out(system, start, fall, packets);
     }
     let frames = frames_asked(options.frames);
     record_into(
@@ -71,6 +81,7 @@ fn record_to(options: Options, system: u32, start: u32, packets: &[u8]) -> u32 {
         start,
         options.folder,
         programme::piece_lines(system, frames),
+        fall,
         packets,
     )
 }

@@ -72,7 +72,7 @@ pub(crate) fn print_usage(output: i32, verb: &[u8]) -> bool {
         Verb::Confirm => form(output, b"confirm [FILE | FOLDER]..\n"),
         Verb::Record => form(
             output,
-            b"record [--into FOLDER [--frames N]] [--packets FILE] SYSTEM START\n",
+            b"record [--into FOLDER [--frames N]] [--packets FILE] [--fall LINE] SYSTEM START\n",
         ),
         Verb::Extract => form(output, b"extract [--packets FILE] [FILE | FOLDER]\n"),
         Verb::Packets => form(output, b"packets [FILE | FOLDER]\n"),
@@ -126,14 +126,17 @@ fn print_record() -> bool {
         & line(b"with --frames after at most N of them. With --packets each line gets the packets")
         & line(b"that FILE has for it, as extract --packets writes it, and after the last row")
         & line(b"lines go on as far as packets need. What FILE has for no line is refused.")
+        & line(b"With --fall, for old cameras of 525, V of the first field falls at LINE, 10 to")
+        & line(b"20, and of the second 263 lines later. A frame then has 527 - 2 * LINE rows: 487")
+        & line(b"with 20, as without the option, and 507 with 10. 625 ignores LINE.")
 }
 
 fn print_extract() -> bool {
-    line(b"Writes the v210 rows of the V = 0 lines to standard output, up to the first")
-        & line(b"refusal, and says what confirm says on standard error. With no name it reads")
-        & line(b"standard input. A folder is one programme, in recordings 0001.rec and on. With")
-        & line(b"--packets the ancillary packets of all lines, captions among them, go to FILE,")
-        & line(b"which is made; one that holds something is not touched.")
+    line(b"Writes the v210 rows of the lines whose own V is 0 to standard output, up to the")
+        & line(b"first refusal, and says what confirm says on standard error. With no name it")
+        & line(b"reads standard input. A folder is one programme, in recordings 0001.rec and on.")
+        & line(b"With --packets the ancillary packets of all lines, captions among them, go to")
+        & line(b"FILE, which is made; one that holds something is not touched.")
 }
 
 fn print_packets() -> bool {

@@ -13,9 +13,23 @@ pub(crate) struct Options {
     pub(crate) folder: usize,
     pub(crate) frames: usize,
     pub(crate) packets: usize,
+    pub(crate) fall: usize,
     pub(crate) end: usize,
     is_open: bool,
     is_unknown: bool,
+}
+
+// Whether an option names an argument that is no number.
+fn is_no_number(index: usize) -> bool {
+    index != 0 && number(index) == NO_NUMBER
+}
+
+// The argument that gives an option's number where it is named again: the later one, but what is no number is kept, to be told.
+fn number_at(before: usize, value: usize) -> usize {
+    if is_no_number(before) {
+        return before;
+    }
+    value
 }
 
 // The options with this text more, which stands at their end.
@@ -32,7 +46,11 @@ fn with_option(options: Options, text: &[u8]) -> Options {
         return next;
     }
     if options.is_recording && same(text, b"--frames") {
-        next.frames = value;
+        next.frames = number_at(options.frames, value);
+        return next;
+    }
+    if options.is_recording && same(text, b"--fall") {
+        next.fall = number_at(options.fall, value);
         return next;
     }
     next.is_open = false;
@@ -58,6 +76,7 @@ pub(crate) fn read_options(is_recording: bool) -> Options {
         folder: 0,
         frames: 0,
         packets: 0,
+        fall: 0,
         end: FIRST,
         is_open: true,
         is_unknown: false,
@@ -89,8 +108,11 @@ pub(crate) fn options_wrong(options: Options, verb: &[u8], count: usize) -> u32 
     if count < options.end {
         return wrong::missing(verb);
     }
-    if options.frames != 0 && number(options.frames) == NO_NUMBER {
+    if is_no_number(options.frames) {
         return wrong::no_number(verb, options.frames);
+    }
+    if is_no_number(options.fall) {
+        return wrong::no_number(verb, options.fall);
     }
     if options.is_unknown {
         return wrong::no_option(verb, options.end);

@@ -8,7 +8,7 @@ use lib.ListN.{length}
 use borrow.Author.Tests.{ltb-true, ltb-false}
 use Rattle.refusal.specs.declared.Refusal.{Refusal}
 use Rattle.refusal.specs.Numbers.{wrongLength, outside}
-use Rattle.refusal.specs.Answer.{none, writtenBy, firstFrom}
+use Rattle.refusal.specs.Answer.{none, orElse, writtenBy, firstFrom}
 use Rattle.refusal.specs.Table.{Decides, Keeps}
 use Rattle.refusal.proofs.Cases.{by-test}
 use Rattle.refusal.proofs.Firsts.{orElse-accepted, orElse-none, same-number, written-accepted, written-refused}
@@ -17,12 +17,14 @@ use Rattle.words.proofs.Tabs.{same-tab}
 use Rattle.packets.specs.Fault.{readyRefusal}
 use Rattle.packets.proofs.Exact.{ready-exact, ready-decides}
 use Rattle.system.specs.declared.due.Due.{Due}
-use Rattle.system.specs.Figures.{lineLength, activeOffset, systemOf}
-use Rattle.system.specs.Due.{dueOf}
-use Rattle.system.specs.Walk.{namedRefusal}
-use Rattle.system.proofs.Laws.{sav-low, named-accepted, accepted-named}
-use Rattle.system.proofs.Theorems.{named-exact, named-decides}
+use Rattle.system.specs.Figures.{lineLength, activeOffset, systemOf, vOf}
+use Rattle.system.specs.Due.{dueWith, dueOf}
+use Rattle.system.specs.Walk.{namedRefusal, writtenRefusal}
+use Rattle.system.proofs.Laws.{sav-low, written-named, accepted-written}
+use Rattle.system.proofs.Falls.{named-as-before, written-as-before}
+use Rattle.system.proofs.Theorems.{written-exact, written-decides}
 use Rattle.line.specs.Fault.{betweenOffset}
+use Rattle.line.specs.Fit.{Fit}
 use Rattle.line.specs.Lengths.{lengthRefusal}
 use Rattle.line.specs.Samples.{Samples, Packets, Content, activeLength, bareAt, bareOf, nothingReady, laidAt, writtenAt, lineOf, partSamples}
 use Rattle.line.proofs.Lengths.{measured-accepted, accepted-measured}
@@ -63,6 +65,25 @@ module _ (d : Due) where
         (buffer-exact (length (c .samples .y)) (length (c .samples .cb)) (length (c .samples .cr)))
         (keeps-before _ _ (packetsRefusal d (c .packets)) _ (packets-exact (c .packets))
         (keeps-last _ (sampleRefusal d (c .samples)) (samples-exact d (c .samples)))))
+
+    -- a line in which this is due is written exactly when the lengths are right and the content fits
+    pub due-fits : dueRefusal d c room .number ≡ 0 → (room ≡ lineLength (d .system)) × Fit d c
+    due-fits e =
+        let passed = due-passed d c room e in (
+          passed .words,
+          record {
+            lengths = accepted-measured (c .samples) (passed .lengths);
+            range = accepted-inside (c .samples) d (passed .samples);
+            packets = passed .packets;
+          },
+        )
+
+    pub fitting-due : room ≡ lineLength (d .system) → Fit d c → dueRefusal d c room .number ≡ 0
+    fitting-due words fit =
+        same-number
+        (sym (due-samples d c room words (same-number (measured-accepted (c .samples) (fit .lengths)))
+        (same-number (carried-accepted d (c .packets) (fit .packets))))
+        ∙ inside-accepted (c .samples) d (fit .range))
 
     pub due-decides : Decides (dueRefusals d c room)
     due-decides =
@@ -120,67 +141,67 @@ module _ (d : Due) where
       (record { between-room = omega (arith, sav-low (d .system)); active-room = omega arith; between-well = refl; active-well = refl })
 
 -- by the line's number: "1, 2, 3", the ready packet words, "then 12 at the lowest place, on V = 0 lines only"
-module _ (system line : ℕ) (c : Content) where
+module _ (system line fall : ℕ) (c : Content) where
   module _ (room : ℕ) where
-    pub write-exact : Keeps (writeRefusals system line c room) (writeRefusal system line c room)
+    pub write-exact : Keeps (writeRefusals system line fall c room) (writeRefusal system line fall c room)
     unfolding writeRefusal
-    write-exact = keeps-before _ _ (namedRefusal system line) _ (named-exact system line) (due-exact (dueOf (systemOf system) line) c room)
+    write-exact = keeps-before _ _ (writtenRefusal system line fall) _ (written-exact system line fall) (due-exact (dueOf (systemOf system) line fall) c room)
 
-    pub write-decides : Decides (writeRefusals system line c room)
-    write-decides = decides-before _ _ (named-decides system line) (due-decides (dueOf (systemOf system) line) c room)
+    pub write-decides : Decides (writeRefusals system line fall c room)
+    write-decides = decides-before _ _ (written-decides system line fall) (due-decides (dueOf (systemOf system) line fall) c room)
 
-    -- ---- A line is written exactly when the system, the line and the lengths are right, the ready packet words fit their spaces and are judged
-    -- well and, where V is 0, each sample is from 4 to 1019.
-    written-fits : writeRefusal system line c room .number ≡ 0 → Writable system line c room
-    unfolding writeRefusal dueOf
+    -- ---- A line is written exactly when the system, the line, the fall line and the lengths are right, the ready packet words fit their spaces
+    -- and are judged well and, where V is 0, each sample is from 4 to 1019.
+    written-fits : writeRefusal system line fall c room .number ≡ 0 → Writable system line fall c room
+    unfolding writeRefusal dueOf dueWith
     written-fits e =
-        let d = dueOf (systemOf system) line in
-        let both = orElse-none (namedRefusal system line) _ e in
-        let named = accepted-named system line (both .0) in
-        let passed = due-passed d c room (both .1) in
-        record {
-          a-system = named .a-system;
-          a-line = named .a-line;
-          words = passed .words;
-          fit = record {
-            lengths = accepted-measured (c .samples) (passed .lengths);
-            range = accepted-inside (c .samples) d (passed .samples);
-            packets = passed .packets;
-          };
-        }
+        let both = orElse-none (writtenRefusal system line fall) _ e in
+        let named = accepted-written system line fall (both .0) in
+        let fits = due-fits (dueOf (systemOf system) line fall) c room (both .1) in
+        record { a-system = named .a-system; a-line = named .a-line; a-fall = named .a-fall; words = fits .0; fit = fits .1 }
 
-    fitting-written : Writable system line c room → writeRefusal system line c room .number ≡ 0
-    unfolding writeRefusal dueOf
+    fitting-written : Writable system line fall c room → writeRefusal system line fall c room .number ≡ 0
+    unfolding writeRefusal dueOf dueWith
     fitting-written w =
-        let d = dueOf (systemOf system) line in
-        same-number
-        (orElse-accepted (namedRefusal system line) _ (same-number (named-accepted system line (w .a-system) (w .a-line)))
-        ∙ sym (due-samples d c room (w .words) (same-number (measured-accepted (c .samples) (w .fit .lengths)))
-        (same-number (carried-accepted d (c .packets) (w .fit .packets))))
-        ∙ inside-accepted (c .samples) d (w .fit .range))
+        let named = written-named system line fall (record { a-system = w .a-system; a-line = w .a-line; a-fall = w .a-fall }) in
+        same-number (orElse-accepted (writtenRefusal system line fall) _ (same-number named)) ∙ fitting-due (dueOf (systemOf system) line fall) c room (w .words) (w .fit)
 
-    pub written-samples-fit : (writeRefusal system line c room .number ≡ 0 → Writable system line c room)
-        × (Writable system line c room → writeRefusal system line c room .number ≡ 0)
+    pub written-samples-fit : (writeRefusal system line fall c room .number ≡ 0 → Writable system line fall c room)
+        × (Writable system line fall c room → writeRefusal system line fall c room .number ≡ 0)
     written-samples-fit = (written-fits, fitting-written)
 
   module _ (words : List ℕ) where
     -- A refusal leaves the line as it was.
-    pub refused-writes-nothing : (writeRefusal system line c (length words) .number ≡ 0 → ⊥) → lineAfter system line c words ≡ words
+    pub refused-writes-nothing : (writeRefusal system line fall c (length words) .number ≡ 0 → ⊥) → lineAfter system line fall c words ≡ words
     unfolding lineAfter
-    refused-writes-nothing n = written-refused (writeRefusal system line c (length words)) _ words n
+    refused-writes-nothing n = written-refused (writeRefusal system line fall c (length words)) _ words n
 
     -- Otherwise the line is the one that is due, of the line's length.
-    pub accepted-writes-the-line : writeRefusal system line c (length words) .number ≡ 0
-        → (lineAfter system line c words ≡ lineOf (dueOf (systemOf system) line) c) × (length (lineAfter system line c words) ≡ lineLength (systemOf system))
-    unfolding lineAfter dueOf
+    pub accepted-writes-the-line : writeRefusal system line fall c (length words) .number ≡ 0
+        → (lineAfter system line fall c words ≡ lineOf (dueOf (systemOf system) line fall) c) × (length (lineAfter system line fall c words) ≡ lineLength (systemOf system))
+    unfolding lineAfter dueOf dueWith
     accepted-writes-the-line e =
-        let line-is : lineAfter system line c words ≡ lineOf (dueOf (systemOf system) line) c =
-        written-accepted (writeRefusal system line c (length words)) _ words e in
-        (line-is, ap length line-is ∙ line-length (dueOf (systemOf system) line) c)
+        let line-is : lineAfter system line fall c words ≡ lineOf (dueOf (systemOf system) line fall) c =
+        written-accepted (writeRefusal system line fall c (length words)) _ words e in
+        (line-is, ap length line-is ∙ line-length (dueOf (systemOf system) line fall) c)
 
     -- Two results allowed for one input are the same: the answer and every word.
     pub write-one-result : (r s : Refusal) (after other : List ℕ)
-        → r ≡ writeRefusal system line c (length words) → after ≡ lineAfter system line c words
-        → s ≡ writeRefusal system line c (length words) → other ≡ lineAfter system line c words
+        → r ≡ writeRefusal system line fall c (length words) → after ≡ lineAfter system line fall c words
+        → s ≡ writeRefusal system line fall c (length words) → other ≡ lineAfter system line fall c words
         → (r ≡ s) × (after ≡ other)
     write-one-result r s after other e f g h = (e ∙ sym g, f ∙ sym h)
+
+-- With fall line 20 lines are written as before: by the table's V.
+module _ (system line : ℕ) (c : Content) where
+  pub write-as-before : (room : ℕ) → writeRefusal system line 20 c room
+      ≡ orElse (namedRefusal system line) (dueRefusal (dueWith (systemOf system) line (vOf (systemOf system) line)) c room)
+  unfolding writeRefusal
+  write-as-before room =
+      ap (λ (d : Due). orElse (writtenRefusal system line 20) (dueRefusal d c room)) (written-as-before (systemOf system) line)
+      ∙ ap (λ (r : Refusal). orElse r (dueRefusal (dueWith (systemOf system) line (vOf (systemOf system) line)) c room)) (named-as-before system line)
+
+  pub line-as-before : (words : List ℕ) → writeRefusal system line 20 c (length words) .number ≡ 0
+      → lineAfter system line 20 c words ≡ lineOf (dueWith (systemOf system) line (vOf (systemOf system) line)) c
+  line-as-before words e =
+      accepted-writes-the-line system line 20 c words e .0 ∙ ap (λ (d : Due). lineOf d c) (written-as-before (systemOf system) line)

@@ -11,7 +11,7 @@ use Rattle.packets.specs.Refusals.{readyRefusals}
 use Rattle.system.specs.declared.due.Due.{Due}
 use Rattle.system.specs.Figures.{activeOffset, systemOf}
 use Rattle.system.specs.Due.{dueOf}
-use Rattle.system.specs.Refusals.{namedRefusals}
+use Rattle.system.specs.Refusals.{writtenRefusals}
 use Rattle.words.specs.Words.{leastSample, mostSample}
 use Rattle.line.specs.Fault.{betweenOffset}
 use Rattle.line.specs.Lengths.{lengthRefusals, bufferRefusals, roomRefusals}
@@ -44,6 +44,6 @@ partRefusals d part k room =
     before packetsRefusals d k
     before sampleRefusals d (partSamples part)
 
--- "1, 2, 3", the ready packet words, "then 12 at the lowest place, on V = 0 lines only"
-abbrev pub writeRefusals : ℕ → ℕ → Content → ℕ → Row
-writeRefusals system line c room = namedRefusals system line before dueRefusals (dueOf (systemOf system) line) c room
+-- "1, 2", a fall line outside 10 to 20 among it, "3", the ready packet words, "then 12 at the lowest place, on V = 0 lines only"
+abbrev pub writeRefusals : ℕ → ℕ → ℕ → Content → ℕ → Row
+writeRefusals system line fall c room = writtenRefusals system line fall before dueRefusals (dueOf (systemOf system) line fall) c room

@@ -11,7 +11,7 @@ use Rattle.packets.specs.Fault.{readyRefusal}
 use Rattle.system.specs.declared.due.Due.{Due}
 use Rattle.system.specs.Figures.{activeOffset, systemOf}
 use Rattle.system.specs.Due.{dueOf}
-use Rattle.system.specs.Walk.{namedRefusal}
+use Rattle.system.specs.Walk.{writtenRefusal}
 use Rattle.words.specs.Words.{leastSample, mostSample}
 use Rattle.line.specs.Fault.{betweenOffset}
 use Rattle.line.specs.Lengths.{lengthRefusal, bufferRefusal, roomRefusal}
@@ -58,11 +58,11 @@ partRefusal d part k room =
 abbrev pub partContent : List ℕ → Packets → Content
 partContent part k = record { samples = partSamples part; packets = k }
 
--- "Writer: 1, 2, 3", the ready packet words, "then 12": by the line's number
-unfoldable pub writeRefusal : ℕ → ℕ → Content → ℕ → Refusal
+-- "Writer: 1, 2, 3", the ready packet words, "then 12": by the line's number and "the first field's fall line"
+unfoldable pub writeRefusal : ℕ → ℕ → ℕ → Content → ℕ → Refusal
 unfolding dueRefusal
-writeRefusal system line c room = orElse (namedRefusal system line) (dueRefusal (dueOf (systemOf system) line) c room)
+writeRefusal system line fall c room = orElse (writtenRefusal system line fall) (dueRefusal (dueOf (systemOf system) line fall) c room)
 
 -- the line afterwards: "No refusal writes a buffer."
-unfoldable pub lineAfter : ℕ → ℕ → Content → List ℕ → List ℕ
-lineAfter system line c before = writtenBy (writeRefusal system line c (length before)) (lineOf (dueOf (systemOf system) line) c) before
+unfoldable pub lineAfter : ℕ → ℕ → ℕ → Content → List ℕ → List ℕ
+lineAfter system line fall c before = writtenBy (writeRefusal system line fall c (length before)) (lineOf (dueOf (systemOf system) line fall) c) before

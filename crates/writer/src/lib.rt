@@ -19,20 +19,21 @@ use line::buffer_refusal;
 use refusal::Number;
 use refusal::Refusal;
 use system::Due;
-use system::named_refusal;
 use system::system_of;
+use system::written_refusal;
 use timing::fourth;
 use words::LEAST_SAMPLE;
 use words::MOST_SAMPLE;
 use words::MOST_WORD;
 use words::reserved;
 
-// Writes the line with this number: 1, 2, 3, what is wrong with the ready packet words of the space between and of the active part, and then 12
+// Writes the line with this number, where V of the first field falls at this line: 1, 2, 3, what is wrong with the ready packet words of the space between and of the active part, and then 12
 // at the lowest place of the active part, on V = 0 lines only. On V = 1 lines the samples are measured but not looked at. Behind the packets
 // fill is written. A refusal leaves the line as it was.
 pub fn write(
     system: u32,
     line: u32,
+    fall: u32,
     y: &[u16],
     cb: &[u16],
     cr: &[u16],
@@ -40,14 +41,14 @@ pub fn write(
     active: &[u16],
     words: &mut [u16],
 ) -> Refusal
-    ensures answer { λ r. ⌜ r ≡ writeRefusal system line (record { samples = record { y = now (y .entry); cb = now (cb .entry); cr = now (cr .entry) }; packets = record { between = now (between .entry); active = now (active .entry) } }) (length (now (words .entry))) ⌝ }
-    ensures words { λ r. ⌜ now (words .exit) ≡ lineAfter system line (record { samples = record { y = now (y .entry); cb = now (cb .entry); cr = now (cr .entry) }; packets = record { between = now (between .entry); active = now (active .entry) } }) (now (words .entry)) ⌝ }
+    ensures answer { λ r. ⌜ r ≡ writeRefusal system line fall (record { samples = record { y = now (y .entry); cb = now (cb .entry); cr = now (cr .entry) }; packets = record { between = now (between .entry); active = now (active .entry) } }) (length (now (words .entry))) ⌝ }
+    ensures words { λ r. ⌜ now (words .exit) ≡ lineAfter system line fall (record { samples = record { y = now (y .entry); cb = now (cb .entry); cr = now (cr .entry) }; packets = record { between = now (between .entry); active = now (active .entry) } }) (now (words .entry)) ⌝ }
 {
-    let named = named_refusal(system, line);
+    let named = written_refusal(system, line, fall);
     if named.number != 0 {
         return named;
     }
-    let due = Due::of(system_of(system), line);
+    let due = Due::of(system_of(system), line, fall);
     write_line(due, y, cb, cr, between, active, words)
 }
 

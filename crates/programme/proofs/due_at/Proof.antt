@@ -15,7 +15,7 @@ of-requires c κs = search needs
 returns : tie.Need-returns
 returns c =
     let start = c .before .before in
-    c .of .ensures ∙ ap (λ (s : System). dueOf s (start .args .walk .line)) (c .before .system-of .ensures)
+    c .of .ensures ∙ ap (λ (s : System). dueOf s (start .args .walk .line) (start .args .fall)) (c .before .system-of .ensures)
 
 pub due-at-spec : {M : Type 1} → statement M
 due-at-spec = tie.close (tie.spec system-of-requires of-requires returns)

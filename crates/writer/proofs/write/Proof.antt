@@ -1,4 +1,4 @@
--- `writer::write` meets its contract: both numbers name something, and then what is due in that line decides. Assumes nothing.
+-- `writer::write` meets its contract: the numbers name something, and then what is due in that line decides. Assumes nothing.
 use borrow.Author.Needs.{needs}
 use Prim.Native.Nat.{ℕ}
 use mathlib.Core.Path.{_≡_, sym, ap, _∙_}
@@ -12,7 +12,7 @@ use Rattle.system.specs.declared.System.{System}
 use Rattle.system.specs.declared.due.Due.{Due}
 use Rattle.system.specs.Figures.{systemOf}
 use Rattle.system.specs.Due.{dueOf}
-use Rattle.system.specs.Walk.{namedRefusal}
+use Rattle.system.specs.Walk.{writtenRefusal}
 use Rattle.line.specs.Samples.{Content, lineOf}
 use Rattle.writer.specs.Write.{dueRefusal, writeRefusal, lineAfter}
 use Rattle.writer.proofs.write.Statement.{statement}
@@ -25,30 +25,30 @@ content-of c =
       packets = record { between = now (c .args .between); active = now (c .args .active) };
     }
 
-module _ (system line : ℕ) (c : Content) (words : List ℕ) (named : Refusal) (is-named : named ≡ namedRefusal system line) where
-  unnamed : (named .number ≡ 0 → ⊥) → (named ≡ writeRefusal system line c (length words)) × (words ≡ lineAfter system line c words)
+module _ (system line fall : ℕ) (c : Content) (words : List ℕ) (named : Refusal) (is-named : named ≡ writtenRefusal system line fall) where
+  unnamed : (named .number ≡ 0 → ⊥) → (named ≡ writeRefusal system line fall c (length words)) × (words ≡ lineAfter system line fall c words)
   unfolding writeRefusal lineAfter
   unnamed n =
-      let refused = orElse-refused (namedRefusal system line) (dueRefusal (dueOf (systemOf system) line) c (length words)) (λ z. n (same-number is-named ∙ z)) in
+      let refused = orElse-refused (writtenRefusal system line fall) (dueRefusal (dueOf (systemOf system) line fall) c (length words)) (λ z. n (same-number is-named ∙ z)) in
       (is-named ∙ sym refused, sym (written-refused _ _ words (λ z. n (same-number is-named ∙ sym (same-number refused) ∙ z))))
 
-  as-due : named .number ≡ 0 → (d : Due) → d ≡ dueOf (systemOf system) line → (r : Refusal) (after : List ℕ) → r ≡ dueRefusal d c (length words)
+  as-due : named .number ≡ 0 → (d : Due) → d ≡ dueOf (systemOf system) line fall → (r : Refusal) (after : List ℕ) → r ≡ dueRefusal d c (length words)
       → after ≡ writtenBy r (lineOf d c) words
-      → (r ≡ writeRefusal system line c (length words)) × (after ≡ lineAfter system line c words)
+      → (r ≡ writeRefusal system line fall c (length words)) × (after ≡ lineAfter system line fall c words)
   unfolding writeRefusal lineAfter
   as-due z d is-due r after answer left =
-      let same : r ≡ writeRefusal system line c (length words) =
-      answer ∙ ap (λ (x : Due). dueRefusal x c (length words)) is-due ∙ sym (orElse-accepted (namedRefusal system line) _ (sym (same-number is-named) ∙ z)) in
-      (same, left ∙ ap (λ (x : Due). writtenBy r (lineOf x c) words) is-due ∙ ap (λ (x : Refusal). writtenBy x (lineOf (dueOf (systemOf system) line) c) words) same)
+      let same : r ≡ writeRefusal system line fall c (length words) =
+      answer ∙ ap (λ (x : Due). dueRefusal x c (length words)) is-due ∙ sym (orElse-accepted (writtenRefusal system line fall) _ (sym (same-number is-named) ∙ z)) in
+      (same, left ∙ ap (λ (x : Due). writtenBy r (lineOf x c) words) is-due ∙ ap (λ (x : Refusal). writtenBy x (lineOf (dueOf (systemOf system) line fall) c) words) same)
 
-named-refusal-requires : tie.Need-named-refusal-requires
-named-refusal-requires c κs = search needs
+written-refusal-requires : tie.Need-written-refusal-requires
+written-refusal-requires c κs = search needs
 
 returns : tie.Need-returns
 returns c =
     let start = c .before .before .before .before .before .before .before .before .before in
-    let named = c .before .before .named-refusal .ensures in
-    unnamed (start .args .system) (start .args .line) (content-of start) (now (start .args .words)) _ named (c .if1 .taken)
+    let named = c .before .before .written-refusal .ensures in
+    unnamed (start .args .system) (start .args .line) (start .args .fall) (content-of start) (now (start .args .words)) _ named (c .if1 .taken)
 
 system-of-requires : tie.Need-system-of-requires
 system-of-requires c κs = search needs
@@ -66,15 +66,15 @@ returns-2 : tie.Need-returns-2
 returns-2 c =
     let start = c .before .before .before .before .before .before .before .before .before .before .before .before .before .before .before in
     let wrote = c .before .before .write-line .ensures in
-    let due = c .before .before .before .before .of .ensures ∙ ap (λ (s : System). dueOf s (start .args .line)) (c .before .before .before .before .before .system-of .ensures) in
-    as-due (start .args .system) (start .args .line) (content-of start) (now (start .args .words)) _ (c .before .before .before .before .before .before .before .before .named-refusal .ensures)
+    let due = c .before .before .before .before .of .ensures ∙ ap (λ (s : System). dueOf s (start .args .line) (start .args .fall)) (c .before .before .before .before .before .system-of .ensures) in
+    as-due (start .args .system) (start .args .line) (start .args .fall) (content-of start) (now (start .args .words)) _ (c .before .before .before .before .before .before .before .before .written-refusal .ensures)
     (c .before .before .before .before .before .before .if1 .left) _ due _ _ (wrote .0) (wrote .1)
 
 pub write-spec : {M : Type 1} → statement M
 write-spec =
     tie.close
     (tie.spec
-    named-refusal-requires
+    written-refusal-requires
     returns
     system-of-requires
     of-requires

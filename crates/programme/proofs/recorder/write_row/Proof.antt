@@ -19,19 +19,19 @@ use Rattle.programme.proofs.recorder.write_row.Statement.{statement}
 use Rattle.programme.proofs.recorder.write_row.Tie as tie
 
 -- what is due says whether a row is taken
-module _ (w : Walk) (d : Due) (is-due : d ≡ dueAtWalk w) where
-  takes-none : d .v ≡ true → takesRow w ≡ false
+module _ (fall : ℕ) (w : Walk) (d : Due) (is-due : d ≡ dueAtWalk fall w) where
+  takes-none : d .v ≡ true → takesRow fall w ≡ false
   unfolding takesRow
   takes-none v = ap (λ (x : Due). not (x .v)) (sym is-due) ∙ ap not v
 
-  takes-one : d .v ≡ false → takesRow w ≡ true
+  takes-one : d .v ≡ false → takesRow fall w ≡ true
   unfolding takesRow
   takes-one v = ap (λ (x : Due). not (x .v)) (sym is-due) ∙ ap not v
 
 -- a row that is refused is the line's refusal
-refuses : (w : Walk) (row : List ℕ) (k : Packets) → takesRow w ≡ true → (r : Refusal) → r ≡ unpackedRefusal row → (r .number ≡ 0 → ⊥) → (after : List ℕ)
-    → (r ≡ rowRefusal w row k) × (r .number ≡ 0 → after ≡ lineOf (dueAtWalk w) (rowContent row k))
-refuses w row k t r e n after = (e ∙ sym (line-row w row k t (λ z. n (same-number e ∙ z))), λ z. absurd (n z))
+refuses : (fall : ℕ) (w : Walk) (row : List ℕ) (k : Packets) → takesRow fall w ≡ true → (r : Refusal) → r ≡ unpackedRefusal row → (r .number ≡ 0 → ⊥) → (after : List ℕ)
+    → (r ≡ rowRefusal fall w row k) × (r .number ≡ 0 → after ≡ lineOf (dueAtWalk fall w) (rowContent row k))
+refuses fall w row k t r e n after = (e ∙ sym (line-row fall w row k t (λ z. n (same-number e ∙ z))), λ z. absurd (n z))
 
 abbrev ready-of : tie.Start → Packets
 ready-of c = record { between = now (c .args .between); active = now (c .args .active) }
@@ -53,16 +53,16 @@ returns c =
     let start = c .before .before .before .before .before .before .before .before .before .before .before .before in
     let a = start .args in
     let wrote = c .before .before .write-part .ensures in
-    blank-written (a .walk) (now (a .row)) (ready-of start) _ (c .before .before .before .before .before .before .due-at .ensures) (now (a .part)) (now (a .words)) (start .pre .0) (start .pre .1) _ (wrote .0) _ (wrote .1)
-    (takes-none (a .walk) _ (c .before .before .before .before .before .before .due-at .ensures) (c .before .before .before .before .before .if1 .taken))
+    blank-written (a .fall) (a .walk) (now (a .row)) (ready-of start) _ (c .before .before .before .before .before .before .due-at .ensures) (now (a .part)) (now (a .words)) (start .pre .0) (start .pre .1) _ (wrote .0) _ (wrote .1)
+    (takes-none (a .fall) (a .walk) _ (c .before .before .before .before .before .before .due-at .ensures) (c .before .before .before .before .before .if1 .taken))
 
 returns-2 : tie.Need-returns-2
 returns-2 c =
     let start = c .before .before .before .before .before .before .before .before in
     let a = start .args in
-    let t = takes-one (a .walk) _ (c .before .before .due-at .ensures) (c .before .if1 .left) in
+    let t = takes-one (a .fall) (a .walk) _ (c .before .before .due-at .ensures) (c .before .if1 .left) in
     let short = unpacked-short (now (a .row)) (c .if2 .taken) in
-    refuses (a .walk) (now (a .row)) (ready-of start) t _ (sym short) (λ z. omega arith) _
+    refuses (a .fall) (a .walk) (now (a .row)) (ready-of start) t _ (sym short) (λ z. omega arith) _
 
 unpack-requires : tie.Need-unpack-requires
 unpack-requires c κs = search needs
@@ -74,9 +74,9 @@ returns-3 : tie.Need-returns-3
 returns-3 c =
     let start = c .before .before .before .before .before .before .before .before .before .before .before .before .before .before in
     let a = start .args in
-    let t = takes-one (a .walk) _ (c .before .before .before .before .before .before .before .before .due-at .ensures) (c .before .before .before .before .before .before .before .if1 .left) in
+    let t = takes-one (a .fall) (a .walk) _ (c .before .before .before .before .before .before .before .before .due-at .ensures) (c .before .before .before .before .before .before .before .if1 .left) in
     let is = c .before .before .before .before .unpack .ensures .0 ∙ unpack-row (now (a .row)) _ (c .before .before .before .before .before .before .if2 .left) (start .pre .0) in
-    refuses (a .walk) (now (a .row)) (ready-of start) t _ is (c .if3 .taken) _
+    refuses (a .fall) (a .walk) (now (a .row)) (ready-of start) t _ is (c .if3 .taken) _
 
 write-part-requires-2 : tie.Need-write-part-requires-2
 write-part-requires-2 c κs = search needs
@@ -91,12 +91,12 @@ returns-4 : tie.Need-returns-4
 returns-4 c =
     let start = c .before .before .before .before .before .before .before .before .before .before .before .before .before .before .before .before .before .before .before in
     let a = start .args in
-    let t = takes-one (a .walk) _ (c .before .before .before .before .before .before .before .before .before .before .before .before .before .due-at .ensures) (c .before .before .before .before .before .before .before .before .before .before .before .before .if1 .left) in
+    let t = takes-one (a .fall) (a .walk) _ (c .before .before .before .before .before .before .before .before .before .before .before .before .before .due-at .ensures) (c .before .before .before .before .before .before .before .before .before .before .before .before .if1 .left) in
     let taken = c .before .before .before .before .before .before .before .before .before .unpack in
     let is = taken .ensures .0 ∙ unpack-row (now (a .row)) _ (c .before .before .before .before .before .before .before .before .before .before .before .if2 .left) (start .pre .0) in
     let wrote = c .before .before .write-part2 .ensures in
     let filled = taken .ensures .1 ∙ unpack-accepted-fills (now (a .row)) (now (a .part)) (sym (same-number (taken .ensures .0)) ∙ c .before .before .before .before .before .if3 .left) in
-    picture-written (a .walk) (now (a .row)) (ready-of start) _ (c .before .before .before .before .before .before .before .before .before .before .before .before .before .due-at .ensures) _ (now (a .words)) (ap length filled ∙ unpacked-length (now (a .row))) (start .pre .1) _ (wrote .0) _ (wrote .1)
+    picture-written (a .fall) (a .walk) (now (a .row)) (ready-of start) _ (c .before .before .before .before .before .before .before .before .before .before .before .before .before .due-at .ensures) _ (now (a .words)) (ap length filled ∙ unpacked-length (now (a .row))) (start .pre .1) _ (wrote .0) _ (wrote .1)
     t (sym (same-number is) ∙ c .before .before .before .before .before .if3 .left) filled
 
 pub write-row-spec : {M : Type 1} → statement M

@@ -17,11 +17,11 @@ module _ (t : Tape) where
   unfolding endsAt
   refused n = simp (ne-eqb _ _ n)
 
-  between-frames : t .number ≡ 0 → endsFrame (t .walk) ≡ false → false ≡ endsAt t
+  between-frames : t .number ≡ 0 → endsFrame (t .fall) (t .walk) ≡ false → false ≡ endsAt t
   unfolding endsAt
   between-frames z e = simp (eq-eqb _ _ z, e)
 
-  in-a-frame : t .number ≡ 0 → endsFrame (t .walk) ≡ true → (r : Refusal) → r ≡ walkRefusal (t .walk) → eqb (r .number) 0 ≡ endsAt t
+  in-a-frame : t .number ≡ 0 → endsFrame (t .fall) (t .walk) ≡ true → (r : Refusal) → r ≡ walkRefusal (t .walk) → eqb (r .number) 0 ≡ endsAt t
   unfolding endsAt
   in-a-frame z e r is = simp (eq-eqb _ _ z, e) (ap (λ (x : Refusal). eqb (x .number) 0) is)
 

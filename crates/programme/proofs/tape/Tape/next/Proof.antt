@@ -18,11 +18,11 @@ module _ (t : Tape) (row : List ℕ) (k : Packets) (before : List ℕ) where
   unfolding tapedOf lineTaped
   ended n = (simp (ne-eqb _ _ n), simp (ne-eqb _ _ n))
 
-  goes-on : t .number ≡ 0 → (j : Judgement) (after : List ℕ) → j ≡ recordedOf (t .walk) row k (length before) → after ≡ lineBytesAfter (t .walk) row k before
-      → (record { walk = j .walk; most = t .most; number = j .number; place = j .place } ≡ tapedOf t row k (length before)) × (after ≡ lineTaped t row k before)
+  goes-on : t .number ≡ 0 → (j : Judgement) (after : List ℕ) → j ≡ recordedOf (t .fall) (t .walk) row k (length before) → after ≡ lineBytesAfter (t .fall) (t .walk) row k before
+      → (record { walk = j .walk; most = t .most; fall = t .fall; number = j .number; place = j .place } ≡ tapedOf t row k (length before)) × (after ≡ lineTaped t row k before)
   unfolding tapedOf lineTaped
   goes-on z j after e line = (
-    simp (eq-eqb _ _ z) (ap (λ (x : Judgement). record { walk = x .walk; most = t .most; number = x .number; place = x .place }) e),
+    simp (eq-eqb _ _ z) (ap (λ (x : Judgement). record { walk = x .walk; most = t .most; fall = t .fall; number = x .number; place = x .place }) e),
     simp (eq-eqb _ _ z) line,
   )
 

@@ -1,4 +1,4 @@
--- `system::Walk::moved` meets its contract: the counts by their wrapping sums. Assumes nothing.
+-- `system::Walk::moved` meets its contract: the counts by their wrapping sums, and the record. Assumes nothing.
 use borrow.Author.Needs.{needs}
 use mathlib.Core.Path.{_∙_}
 use Rattle.system.specs.Walk.{movedOf}
@@ -17,17 +17,21 @@ wrapping-add-u32-requires c κs = search needs
 wrapping-add-u32-requires-2 : tie.Need-wrapping-add-u32-requires-2
 wrapping-add-u32-requires-2 c κs = search needs
 
+fallen-by-requires : tie.Need-fallen-by-requires
+fallen-by-requires c κs = search needs
+
 of-requires : tie.Need-of-requires
 of-requires c κs = search needs
 
 returns : tie.Need-returns
 unfolding movedOf
 returns c =
-    let b = c .before in
+    let v = c .before in
+    let b = v .before in
     let a = b .before in
     let r = a .before in
     let n = r .before in
-    c .of .ensures ∙ rw (b .wrapping-add-u322 .ensures, a .wrapping-add-u32 .ensures, r .repairs .ensures, n .next-line .ensures)
+    c .of .ensures ∙ rw (v .fallen-by .ensures, b .wrapping-add-u322 .ensures, a .wrapping-add-u32 .ensures, r .repairs .ensures, n .next-line .ensures)
 
 pub moved-spec : {M : Type 1} → statement M
 moved-spec =
@@ -37,5 +41,6 @@ moved-spec =
     repairs-requires
     wrapping-add-u32-requires
     wrapping-add-u32-requires-2
+    fallen-by-requires
     of-requires
     returns)
