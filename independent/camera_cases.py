@@ -93,7 +93,7 @@ def fall_words(source):
         "record -- --fall 10 525 1", "record --fall --into d 525 1", "record --fall -x 525 1",
         "record --fall x --fall 10 525 9", "record --fall x -x", "record --fall 10 x 9",
         "record --fall 10 --frames 1 525 9", "record --frames 0 --fall x 525 9",
-        "record --fall 21 x 9", "record --fall 21 525 x", "record --fall 21 --help",
+        "record --fall 21 x 9", "record --fall 21 525 x",
         "record --fall 9 --fall 12 525 9", "record --fall 12 --fall 9 525 9",
         "record --fall 10 --fall 20 525 9", "record --fall 010 525 9",
         "record --fall 000000020 525 9", "record --fall 10 -- 525 9",
