@@ -75,11 +75,9 @@ def one_bit_inverted(source):
 
 
 def two_bits_inverted(source):
-    """Every two bits of each code at the edges, some elsewhere."""
+    """Every two bits of each code inverted."""
     for walk, words in offered(source, NEAR):
-        few = source.random.sample(inverted(2), 2)
-        masks = inverted(2) if walk.line in EDGES else few
-        for offset, mask in product(fourth_offsets(525), masks):
+        for offset, mask in product(fourth_offsets(525), inverted(2)):
             call = source.random.choice(CALLS)
             yield call(source, walk, changed(words, {offset: words[offset] ^ mask}))
 

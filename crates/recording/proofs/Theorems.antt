@@ -3,7 +3,7 @@
 use Prim.Native.Nat.{ℕ, suc, _+_, _*_, _<_, _≤_}
 use mathlib.Core.Path.{_≡_, refl, sym, ap, subst, _∙_}
 use mathlib.Core.List.{List, [], _∷_, _++_, append-nil}
-use mathlib.Core.Bool.{Bool, true, false, cond}
+use mathlib.Core.Bool.{Bool, true, false}
 use native.Mathlib.Omega.{arith}
 use lib.Dec.{eqb}
 use lib.ListN.{length, getD}
@@ -22,7 +22,7 @@ use Rattle.system.proofs.Falls.{fresh-may, next-may, due-stands}
 use Rattle.system.specs.declared.due.Due.{Due}
 use Rattle.system.specs.Due.{dueWith, dueOf}
 use Rattle.line.specs.Fault.{wordRefusal}
-use Rattle.line.specs.Samples.{Samples, Packets, Content, samplesOf, contentOf, lineOf}
+use Rattle.line.specs.Samples.{Samples, Content, samplesOf, contentOf, lineOf}
 use Rattle.line.specs.Fit.{Measured, Fit}
 use Rattle.line.specs.Damage.{Damaged, DamagedUpTo}
 use Rattle.line.proofs.Places.{taken-measured}

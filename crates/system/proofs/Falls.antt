@@ -1,10 +1,10 @@
 -- Where V falls: what is written by a fall line may stand at the walk that reads it, and what is due is what may stand. Assumes nothing.
 use Prim.Native.Nat.{ℕ, _+_, _<_, _≤_}
-use mathlib.Core.Path.{_≡_, refl, sym, ap, subst, _∙_}
-use mathlib.Core.Bool.{Bool, true, false, true≢false, cond}
-use mathlib.Core.Logic.{_⊎_, inl, inr, ⊎-elim}
+use mathlib.Core.Path.{_≡_, refl, sym, ap, _∙_}
+use mathlib.Core.Bool.{Bool, true, false, true≢false}
+use mathlib.Core.Logic.{⊎-elim}
 use native.Mathlib.Omega.{arith}
-use lib.Dec.{ltb, leb, eqb}
+use lib.Dec.{ltb, leb}
 use borrow.Author.Tests.{lt-ltb, le-ltb, le-leb, lt-leb, leb-true, leb-false, ltb-true, ltb-false}
 use Rattle.refusal.proofs.Cases.{by-test, by-cond, and-true, or-either, or-neither, or-left, or-right}
 use Rattle.refusal.proofs.Tables.{alone}
@@ -13,7 +13,6 @@ use Rattle.timing.specs.declared.Correction.the-variants.{Clean, Repaired, Refu
 use Rattle.timing.specs.Code.{correctionOf}
 use Rattle.system.specs.declared.System.{System}
 use Rattle.system.specs.declared.System.the-variants.{Lines525, Lines625}
-use Rattle.system.specs.declared.due.Due.{Due}
 use Rattle.system.specs.declared.walk.Walk.{Walk}
 use Rattle.system.specs.Figures.{between, systemOf, nextLine, vOf, mayFall, looksBack, isFall, vWritten}
 use Rattle.system.specs.Due.{dueWith, dueOf}
