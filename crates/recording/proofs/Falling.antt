@@ -3,11 +3,11 @@ use Prim.Native.Nat.{ℕ, _+_, _<_, _≤_}
 use mathlib.Core.Path.{_≡_, sym, subst, _∙_}
 use mathlib.Core.Bool.{Bool, true, false, true≢false}
 use native.Mathlib.Omega.{arith}
-use lib.Dec.{leb}
-use borrow.Author.Tests.{leb-true, leb-false, le-leb, lt-leb, lt-ltb}
+use lib.Dec.{ltb, leb}
+use borrow.Author.Tests.{leb-true, leb-false, le-leb, lt-leb}
 use Rattle.refusal.proofs.Cases.{by-test, or-neither}
 use Rattle.system.specs.declared.System.the-variants.{Lines525}
-use Rattle.system.specs.Figures.{between, systemOf, vOf, mayFall, looksBack, nextLine}
+use Rattle.system.specs.Figures.{lineCount, between, systemOf, vOf, mayFall, looksBack, nextLine}
 use Rattle.system.specs.Walk.{hasFallen, MayHave, fallenBy}
 use Rattle.system.proofs.Laws.{between-both}
 use Rattle.recording.specs.Recording.{line-more}
@@ -75,11 +75,15 @@ module _ (line : ℕ) where
       (λ g. let near = leb-false 264 line g in absurd (not-263 (omega arith)))) in
       there .table (both .0) ∙ both .1)
 
-  next-is : line < 525 → nextLine Lines525 line ≡ line + 1
+  -- after the last line comes line 1, and else the next
+  next-is : (nextLine Lines525 line ≡ 1 → ⊥) → nextLine Lines525 line ≡ line + 1
   unfolding nextLine
-  next-is l = simp (lt-ltb line 525 l)
+  next-is not-first = by-test (ltb line (lineCount Lines525)) (λ t. simp t) (λ f. absurd (not-first (simp f)))
 
 pub stays-down : StaysDown
 unfolding systemOf
-stays-down line fallen altered l m ls reads (line-more room here written dam he hs (line-more room' there written' dam' he' hs' more)) low high not-263 down =
-    next-down line fallen (l .v) (m .v) here (subst (λ (n : ℕ). MayHave Lines525 n (fallenBy (l .v)) (m .v)) (next-is line high) there) low not-263 down
+stays-down line fallen altered l m ls reads (line-more room here written dam he hs (line-more room' there written' dam' he' hs' more)) not-264 not-first down =
+    let is = next-is line not-first in
+    let low : 1 ≤ line = by-test (leb 1 line) (λ t. leb-true 1 line t) (λ f. let none = leb-false 1 line f in absurd (not-first (is ∙ omega arith))) in
+    next-down line fallen (l .v) (m .v) here (subst (λ (n : ℕ). MayHave Lines525 n (fallenBy (l .v)) (m .v)) is there) low
+    (λ e. not-264 (is ∙ omega arith)) down

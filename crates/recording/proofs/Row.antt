@@ -79,9 +79,9 @@ recording-follows first second system fall start altered cs lines hf holds recor
     (simp (eq-eqb (headerSystem second) system is-system, eq-eqb (headerStart second) (lineAfterAll system start (linesOf system fall start cs)) is-start))
 
 pub recordings-in-row : RecordingsInRow
-recordings-in-row first second rest system fall start altered later cs es lines more hf holds recording few hf' holds' recording' few' files =
+recordings-in-row first second rest system fall other start altered later cs es lines more hf holds recording few hf' holds' recording' few' files =
     row.next second
-    (ap (λ (r : Run). r .number) (confirms second system fall (lineAfterAll system start (linesOf system fall start cs)) later es more hf' holds' recording' few'))
+    (ap (λ (r : Run). r .number) (confirms second system other (lineAfterAll system start (linesOf system fall start cs)) later es more hf' holds' recording' few'))
     (recording-follows first second system fall start altered cs lines hf holds recording few (holds' .is-system) (holds' .is-start))
     files
 

@@ -114,7 +114,7 @@ abbrev pub StaysDown : Type 0
 StaysDown =
     (line fallen altered : ℕ) (l m : Line) (ls : List Line) (reads : List (List ℕ))
     → Image (systemNumber Lines525) line fallen (l ∷ m ∷ ls) reads altered
-    → 1 ≤ line → line < 525 → (line ≡ 263 → ⊥) → l .v ≡ false → m .v ≡ false
+    → (nextLine Lines525 line ≡ 264 → ⊥) → (nextLine Lines525 line ≡ 1 → ⊥) → l .v ≡ false → m .v ≡ false
 
 -- D (`nothing-else`). Lines that are read through are such an image, of the lines returned: each of them written with a V that was due at its
 -- walk, of at most 10,000,000 lines, and repairs are its altered codes.

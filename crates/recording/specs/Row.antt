@@ -35,15 +35,15 @@ RecordingFollows =
     → headerSystem second ≡ system → headerStart second ≡ lineAfterAll system start (linesOf system fall start cs)
     → followsOn (confirmedOf first) (begunOf second) ≡ true
 
--- So recordings that were written one behind the other are a row, of any number of files (`recordings-in-row`).
+-- So recordings that were written one behind the other, each with its own fall line, are a row, of any number of files (`recordings-in-row`).
 abbrev pub RecordingsInRow : Type 0
 RecordingsInRow =
-    (first second : List ℕ) (rest : List (List ℕ)) (system fall start altered later : ℕ) (cs es : List Content) (lines more : List (List ℕ))
+    (first second : List ℕ) (rest : List (List ℕ)) (system fall other start altered later : ℕ) (cs es : List Content) (lines more : List (List ℕ))
     → freshOf system start .number ≡ 0
     → Holds first system start lines [] → Recording system fall start cs (map wordsOf lines) altered → length cs ≤ mostLines
     → freshOf system (lineAfterAll system start (linesOf system fall start cs)) .number ≡ 0
     → Holds second system (lineAfterAll system start (linesOf system fall start cs)) more []
-    → Recording system fall (lineAfterAll system start (linesOf system fall start cs)) es (map wordsOf more) later → length es ≤ mostLines
+    → Recording system other (lineAfterAll system start (linesOf system fall start cs)) es (map wordsOf more) later → length es ≤ mostLines
     → Row (confirmedOf second) rest
     → Row (confirmedOf first) (second ∷ rest)
 
