@@ -185,7 +185,7 @@ static void copy(void) { memcpy(target, store, 2 * count * now->words); }
 OVER_LINES(plain_c, plain_judge(now, line, words))
 OVER_LINES(two_pass_c, two_pass_judge(now, line, words))
 OVER_LINES(judge_words, speed_judge(now->system, line, words, now->words))
-OVER_LINES(judge_bytes, fiskrogn_judge(now->system, line, 0, 0, 0, (const uint8_t *)words, 2 * now->words))
+OVER_LINES(judge_bytes, fiskrogn_judge(now->system, line, 0, 0, 0, 0, (const uint8_t *)words, 2 * now->words))
 OVER_LINES(take_lines, speed_take(now->system, line, words, now->words, y, Y_SAMPLES, cb, C_SAMPLES, cr, C_SAMPLES))
 OVER_LINES(in_turn, speed_in_turn(now->system, line, words, now->words, y, Y_SAMPLES, cb, C_SAMPLES, cr, C_SAMPLES))
 OVER_LINES(write_lines, speed_write(now->system, line, y, Y_SAMPLES, cb, C_SAMPLES, cr, C_SAMPLES, ready, ready_words, ready, 0,
@@ -213,7 +213,7 @@ static void compare_line(const System *s, uint32_t line, const uint16_t *words) 
     uint32_t number = plain_judge(s, line, words);
     check(number == 0 && two_pass_judge(s, line, words) == number, "C judges its own lines");
     check(speed_judge(s->system, line, words, s->words) == number, "words are judged as C judges them");
-    check(fiskrogn_judge(s->system, line, 0, 0, 0, (const uint8_t *)words, 2 * s->words) == number, "bytes are judged as C judges them");
+    check(fiskrogn_judge(s->system, line, 0, 0, 0, 0, (const uint8_t *)words, 2 * s->words) == number, "bytes are judged as C judges them");
     compare_taken(speed_take, s, line, words, number);
     compare_taken(speed_in_turn, s, line, words, number);
 }

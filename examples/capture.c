@@ -22,7 +22,7 @@ int main(int argc, char **argv) {
         fprintf(stderr, "usage: capture SYSTEM START < lines\n");
         return 2;
     }
-    uint32_t lines_read = 0, repairs = 0, fallen = 0;
+    uint32_t lines_read = 0, repairs = 0, fallen = 0, tally = 0;
     size_t size = system == 525 ? 2 * 1716 : 2 * 1728;
     static uint8_t bytes[2 * 1728];
 
@@ -38,7 +38,7 @@ int main(int argc, char **argv) {
             return 2;
         }
         if (got == 0) break;
-        uint32_t answer = fiskrogn_judge(system, line, lines_read, repairs, fallen, bytes, got);
+        uint32_t answer = fiskrogn_judge(system, line, lines_read, repairs, fallen, tally, bytes, got);
         if (FISKROGN_REFUSED(answer)) {
             printf("line %u refused: %u at %u\n", line, FISKROGN_NUMBER(answer), FISKROGN_PLACE(answer));
             return 1;
@@ -46,13 +46,14 @@ int main(int argc, char **argv) {
         lines_read += 1;
         repairs += answer;
         fallen = FISKROGN_FALLEN(fiskrogn_correct(bytes[6] + 256u * bytes[7]));
+        tally = (FISKROGN_TURNS(system, line) ? 0 : tally) + answer;
         line = line == system ? 1 : line + 1;
     }
     if (lines_read == 0) {
         fprintf(stderr, "capture: there is no line to judge\n");
         return 2;
     }
-    printf("%u lines, %u repairs\n", lines_read, repairs);
+    printf("%u lines, %u repairs, %u in this field\n", lines_read, repairs, tally);
     if (fflush(stdout) != 0) {
         perror("capture: the output could not be written");
         return 2;

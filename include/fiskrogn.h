@@ -21,19 +21,28 @@
 /* Whether V is 0 in the word that fiskrogn_correct answered, 1 or 0, where that is no refusal. */
 #define FISKROGN_FALLEN(answer) (((answer) & 128u) == 0u)
 
+/* Whether F of this line differs from that of the line before it, 1 or 0. */
+#define FISKROGN_TURNS(system, line) ((system) == 525u ? (line) == 4u || (line) == 266u : (line) == 1u || (line) == 313u)
+
 /* Corrects the fourth word of a timing code. Refuses with 5, 7, 8 in that order, place 0. Otherwise answers the corrected word with
  * both low bits 0, plus 4,096 times the number (2 to 8) of the bit that was repaired, or plus nothing if the word was clean. */
 uint32_t fiskrogn_correct(uint32_t word);
 
 /* Judges the line that a walk awaits, lent as `count` bytes, two per word, low byte first. The walk is given by all that it holds: its
- * system, the awaited line, the lines read and the repairs so far, and its record, `fallen`: whether V was 0 in the last accepted line, 0
- * for no and anything else for yes; a fresh walk's is 0. Refuses with 1, 2, 4, 3 in that order, then at the lowest offset with a fault. An
- * accepted line answers its repairs, 0 to 2; the caller advances its own walk.
+ * system, the awaited line, the lines read and the repairs so far; its record, `fallen`: whether V was 0 in the last accepted line, 0 for no
+ * and anything else for yes; and its `tally`: the number of repaired codes on accepted lines since the latest accepted line whose F differs
+ * from the accepted line before it, that line included, or since the start. A fresh walk has 0 for both; a tally that exceeds the repairs is
+ * refused with 4. Refuses with 1, 2, 4, 3 in that order, then at the lowest offset with a fault. An accepted line answers its repairs, 0 to
+ * 2; the caller advances its own walk.
  *
  * The record counts only in 525, on lines 11 to 19 and 274 to 282, where after yes V = 0 is due. What the caller keeps of an accepted line
  * for the next call is that line's own V, bit 7 of the corrected fourth word of its EAV, bytes 6 and 7 of the line:
- *     fallen = FISKROGN_FALLEN(fiskrogn_correct(bytes[6] + 256u * bytes[7])); */
-uint32_t fiskrogn_judge(uint32_t system, uint32_t line, uint32_t lines_read, uint32_t repairs, uint32_t fallen,
+ *     fallen = FISKROGN_FALLEN(fiskrogn_correct(bytes[6] + 256u * bytes[7]));
+ *
+ * The tally begins anew on a line whose F differs from that of the line before, which are lines 4 and 266 in 525 and lines 1 and 313 in 625,
+ * and the answer, the line's repairs, is added. With `line` the line that was judged, before it is advanced:
+ *     tally = (FISKROGN_TURNS(system, line) ? 0 : tally) + answer; */
+uint32_t fiskrogn_judge(uint32_t system, uint32_t line, uint32_t lines_read, uint32_t repairs, uint32_t fallen, uint32_t tally,
                         const uint8_t *bytes, size_t count);
 
 #endif

@@ -5,8 +5,8 @@ from itertools import chain, cycle, product, starmap
 from independent import judge, protocol
 from independent.due_cases import any_dues
 from independent.edges import ANY_FALLS, ANY_SYSTEMS, EDGE_COUNTS, EDGE_LINES, EDGE_NUMBERS
-from independent.edges import EDGE_RECORDS, EDGE_SAMPLES, EDGE_SUMS, EDGE_WORDS, FALLS, HIGHEST
-from independent.edges import HIGHEST_WIDE, MOSTS, SYSTEMS, WRONG_SYSTEMS
+from independent.edges import EDGE_SAMPLES, EDGE_SUMS, EDGE_WORDS, FALLS, HIGHEST, HIGHEST_WIDE
+from independent.edges import MOSTS, SYSTEMS, WRONG_SYSTEMS
 from independent.judge import CLEAN_REPORT, CODE_BITS, LINES_LIMIT, NO_READY, PacketWords
 from independent.judge import Report, Walk, line_after
 from independent.material import Source, changed, chosen_lines, inverted, line_for
@@ -65,7 +65,7 @@ def every_line_number(source):
 def any_walks(source):
     """Walks that are taken, and with any of system, line and counts wrong, after either V."""
     for system, line, counts in product(ANY_SYSTEMS, (*EDGE_LINES, 11, 20, 23), EDGE_COUNTS):
-        yield Walk(system, line, *counts, source.random.choice(EDGE_RECORDS))
+        yield source.bad_walk(system, line, *counts)
     for system, line in of_both(line_numbers):
         yield source.walk(system, line)
         yield Walk(system, line, 0, 0)
@@ -149,8 +149,7 @@ def full_counts(source):
     one_code = Report(judge.REPAIRED, 8, judge.CLEAN, 0), Report(judge.CLEAN, 0, judge.REPAIRED, 2)
     reports = CLEAN_REPORT, *one_code, Report(judge.REPAIRED, 2, judge.REPAIRED, 8)
     for due, line, counts in product(list(any_dues(source)), EDGE_LINES, FULL_COUNTS):
-        system, record = source.random.choice(ANY_SYSTEMS), source.random.choice(EDGE_RECORDS)
-        walk = Walk(system, line, *counts, record)
+        walk = source.bad_walk(source.random.choice(ANY_SYSTEMS), line, *counts)
         yield protocol.MOVED, (walk, due, source.random.choice(reports))
         packets = source.random.choice(PACKET_COUNTS)
         yield protocol.ACCEPTED, (walk, due, source.random.choice(reports), packets)
@@ -178,6 +177,7 @@ def standing_lengths(source):
         Walk(0, 1, 0, 0), Walk(HIGHEST, 0, HIGHEST, HIGHEST), Walk(525, 0, 0, 0),
         Walk(525, 526, 0, 0), Walk(625, 626, 0, 1), Walk(625, 625, LINES_LIMIT, 0),
         Walk(525, 525, 0, 1), Walk(625, 1, LINES_LIMIT - 1, 2 * LINES_LIMIT - 1),
+        Walk(525, 266, 7, 3, tally=4),
     )  # fmt: skip
     taken = *starmap(source.walk, chosen_lines()), Walk(625, 625, LINES_LIMIT - 1, 0)
     for given, due, walk in product(LENGTHS, LENGTHS, (*taken, *refused)):
@@ -472,18 +472,18 @@ def pieces_of_programmes(source):
         yield protocol.PIECE_LINES, (system, count)
 
 
-def full_pieces():
+def full_pieces(source):
     """Walks and most lines: a frame more is at, one below and one over them."""
     counts = (0, 1, 525, 625, 9_999_375, 9_999_376, 9_999_475, LINES_LIMIT, 2**32 - 626, HIGHEST)
     for system, line, lines in product(ANY_SYSTEMS, (0, 1, 2, 65_537, HIGHEST), counts):
         after = lines + judge.SYSTEMS[judge.system_of(system)].lines
         for most in {0, 1, lines, after - 1, after, after + 1, LINES_LIMIT, HIGHEST}:
             if most < 2**32:
-                yield Walk(system, line, lines, 0), most
+                yield source.bad_walk(system, line, lines, min(lines, 7)), most
 
 
 def ends_of_pieces(source):
-    for walk, most in full_pieces():
+    for walk, most in full_pieces(source):
         yield protocol.ENDS_PIECE, (walk, most)
     for walk in any_walks(source):
         yield protocol.ENDS_PIECE, (walk, source.random.choice((LINES_LIMIT, 2**32 - 1, 625)))
@@ -539,7 +539,7 @@ def runs_at_the_limit(source):
     """So many lines read that a line, or a byte, more is refused."""
     counts = (LINES_LIMIT - 2, LINES_LIMIT - 1, LINES_LIMIT, LINES_LIMIT + 1, HIGHEST)
     for (system, line), lines in product(chosen_lines(), counts):
-        walk = Walk(system, line, lines, 0)
+        walk = Walk(system, line, lines, 5, tally=source.tally(5))
         data = lines_from(source, walk, 3)
         size = line_bytes(walk)
         for end in (0, 1, size - 1, size, size + 1, 2 * size, 2 * size + 1, 3 * size):

@@ -46,21 +46,22 @@ def shared_calls():
         (526, 0, (1, 0)),
     ):  # fmt: skip
         yield f"named {system}, {line}", calls.named_refusal(system, line), refusal
-    last, due = Walk(525, 525, 7, 3, 9), Due(525, 1, 0, 512, 64)
+    last, due = Walk(525, 525, 7, 3, 9, 2), Due(525, 1, 0, 512, 64)
     accepted = calls.accepted(last, due, CLEAN_REPORT, PacketWords(14, 7))
-    yield "accepted", accepted, (0, 0, CLEAN_REPORT, (525, 1, 8, 3, 1), (14, 7))
-    kept = 525, 525, 7, 3, 9
+    yield "accepted", accepted, (0, 0, CLEAN_REPORT, (525, 1, 8, 3, 1, 2), (14, 7))
+    kept = 525, 525, 7, 3, 9, 2
     yield "refused", judge.refused(last, 9, 3), (9, 3, (0, 0, 0, 0), kept, (0, 0))
 
 
 def moved_walks():
     due, other = Due(525, 1, 0, 512, 64), Due(7, 0, 1, 3, 4)
-    last, full = Walk(525, 525, 7, 3), Walk(0, 625, 2**32 - 1, 2**32 - 1)
-    yield "moved", calls.moved(last, due, BOTH_REPAIRED), (525, 1, 8, 5, 1)
-    yield "moved as another", calls.moved(last, other, CLEAN_REPORT), (525, 526, 8, 3, 0)
-    yield "moved over 32 bits", calls.moved(full, other, BOTH_REPAIRED), (0, 1, 0, 1, 0)
-    yield "moved from none", calls.moved(Walk(0, 0, 0, 0), due, CLEAN_REPORT), (0, 1, 1, 0, 1)
-    moved = Walk(625, 24, 10_000_001, 2, 0)
+    last, full = Walk(525, 525, 7, 3, 0, 1), Walk(0, 625, *[2**32 - 1] * 4)
+    yield "moved", calls.moved(last, due, BOTH_REPAIRED), (525, 1, 8, 5, 1, 3)
+    yield "moved as another", calls.moved(last, other, CLEAN_REPORT), (525, 526, 8, 3, 0, 1)
+    over = calls.moved(full, other._replace(f=1), BOTH_REPAIRED)
+    yield "moved over 32 bits", over, (0, 1, 0, 1, 0, 1)
+    yield "moved from none", calls.moved(Walk(0, 0, 0, 0), due, CLEAN_REPORT), (0, 1, 1, 0, 1, 0)
+    moved = Walk(625, 24, 10_000_001, 2, 0, 2)
     yield "moved though counted out", calls.moved(COUNTED_OUT, other, BOTH_REPAIRED), moved
     for walk, given, length_due, refusal in (
         (last, 1716, 1716, (0, 0)),
@@ -68,6 +69,8 @@ def moved_walks():
         (last, 2**32 + 1716, 1716, (3, 0)),
         (last, 0, 1, (3, 0)),
         (COUNTED_OUT, 0, 1, (4, 0)),
+        (last._replace(tally=3), 0, 1, (3, 0)),
+        (last._replace(tally=4), 0, 1, (4, 0)),
         (COUNTED_OUT._replace(line=626), 1, 1, (2, 0)),
         (full, 1, 0, (1, 0)),
     ):
@@ -209,8 +212,8 @@ def pieces():
 def runs():
     recording = record(625, 22, BLACK_ROW * 2)[0]
     run = recordings.begin(recording)
-    yield "begun", run, (625, 22, (625, 22, 0, 0, 0), 0, 0)
-    yield "no header", recordings.begin(b"\x71\2\1"), (0, 0, (0, 0, 0, 0, 0), 1, 0)
+    yield "begun", run, (625, 22, (625, 22, 0, 0, 0, 0), 0, 0)
+    yield "no header", recordings.begin(b"\x71\2\1"), (0, 0, (0, 0, 0, 0, 0, 0), 1, 0)
     after = Run(625, 22, Walk(625, 24, 2, 0, 1), 0, 0)
     yield "followed", recordings.follow(run, recording[4:-1]), (after, 2 * 3456)
     yield "closed", recordings.close(after, b"\0"), after._replace(number=3)
@@ -251,8 +254,8 @@ def steps():
 def tape_calls():
     blank, line = parts(TWO_LINES[4:], 3456)
     tape = tapes.begin_tape(625, 22, 625, 7)
-    yield "begun tape", tape, ((625, 22, 0, 0, 0), 625, 7, 0, 0)
-    yield "no tape", tapes.begin_tape(525, 526, 7, 10), ((0, 0, 0, 0, 0), 7, 10, 2, 0)
+    yield "begun tape", tape, ((625, 22, 0, 0, 0, 0), 625, 7, 0, 0)
+    yield "no tape", tapes.begin_tape(525, 526, 7, 10), ((0, 0, 0, 0, 0, 0), 7, 10, 2, 0)
     second = tape._replace(walk=Walk(625, 23, 1, 0))
     yield "fill taped", tapes.tape_next(tape, b"", *NO_READY, bytes(3456)), (second, blank)
     third = tape._replace(walk=Walk(625, 24, 2, 0, 1))
@@ -262,11 +265,11 @@ def tape_calls():
     yield "row refused", got, (refused, bytes(3456))
     got = tapes.tape_next(refused, BLACK_ROW, *NO_READY, b"\7")
     yield "tape has ended", got, (refused, b"\7")
-    full = Tape(Walk(625, 1, 625, 3, 1), 1249, 7, 5, 9)
+    full = Tape(Walk(625, 1, 625, 3, 1, 2), 1249, 7, 5, 9)
     yield "turns", [tapes.turns(full), tapes.turns(full._replace(most=1250))], [1, 0]
-    yield "turned", tapes.turned(full), ((625, 1, 0, 0, 0), 1249, 7, 5, 9)
+    yield "turned", tapes.turned(full), ((625, 1, 0, 0, 0, 0), 1249, 7, 5, 9)
     no_line = full._replace(walk=COUNTED_OUT._replace(line=0))
-    yield "turned to none", tapes.turned(no_line)[0], (0,) * 5
+    yield "turned to none", tapes.turned(no_line)[0], (0,) * 6
     for walk, number, ends in (
         (Walk(625, 624, 1, 0), 0, 1),
         (Walk(625, 624, 1, 0), 3, 0),
@@ -276,6 +279,8 @@ def tape_calls():
         (Walk(625, 624, 9_999_999, 0), 0, 1),
         (Walk(625, 624, 10_000_000, 0), 0, 0),
         (Walk(0, 624, 1, 0), 0, 0),
+        (Walk(625, 624, 1, 2, 0, 2), 0, 1),
+        (Walk(625, 624, 1, 1, 0, 2), 0, 0),
     ):
         yield f"end of {walk}, {number}", tapes.tape_ends(Tape(walk, 0, 7, number, 0)), ends
 

@@ -3,12 +3,12 @@
 from itertools import product
 
 from independent import call_cases, due_cases, fall_cases, finishing_cases, head_cases, index_cases
-from independent import judge, packet_cases, ready_cases, step_cases
+from independent import judge, packet_cases, ready_cases, step_cases, tally_cases
 from independent.call_cases import readings
 from independent.edges import ALL_PLACES, ANY_FALLS, ANY_SYSTEMS, EDGE_COUNTS, EDGE_LINES
-from independent.edges import EDGE_PLACES, EDGE_RECORDS, EDGE_SAMPLES, EDGE_WORDS, HIGHEST
-from independent.edges import LISTED_COUNTS, LISTED_LENGTHS, LISTED_LINES, LISTED_SAMPLES
-from independent.edges import LISTED_SERIAL, SYSTEMS, WRONG_SYSTEMS
+from independent.edges import EDGE_PLACES, EDGE_SAMPLES, EDGE_WORDS, HIGHEST, LISTED_COUNTS
+from independent.edges import LISTED_LENGTHS, LISTED_LINES, LISTED_SAMPLES, LISTED_SERIAL, SYSTEMS
+from independent.edges import WRONG_SYSTEMS
 from independent.judge import NO_READY, TABLE_FALL, Walk, fourth_offsets, line_after, samples_of
 from independent.material import Source, changed, chosen_lines, edge_offsets, inverted, line_for
 from independent.material import line_numbers, of_both, plain_and_blank_line, slice_lengths
@@ -109,7 +109,8 @@ def listed_counts(source):
     for (system, line), lines_read in product(chosen_lines(), LISTED_COUNTS):
         for repairs in (0, 2 * lines_read, 2 * lines_read + 1):
             words = source.written(system, line)
-            yield from readings(source, Walk(system, line, lines_read, repairs), words)
+            walk = Walk(system, line, lines_read, repairs, tally=source.tally(repairs))
+            yield from readings(source, walk, words)
 
 
 def listed_serial(source):
@@ -293,7 +294,7 @@ def mixed_refusals(source):
         words = stretched(words, len(words) + choice((0, 0, 0, 1, -1)))
         y, cb, cr = source.junk_buffers()
         buffers = y[choice((0, 0, 1)) :], cb[choice((0, 0, 1)) :], cr[choice((0, 0, 1)) :]
-        walk = Walk(system, line, *counts, choice(EDGE_RECORDS))
+        walk = source.bad_walk(system, line, *counts)
         yield JUDGE, (walk, words)
         yield TAKE, (walk, words, *buffers)
         yield ACTIVE, (walk, words)
@@ -458,6 +459,7 @@ FAMILIES = (
     *index_cases.FAMILIES,
     *finishing_cases.FAMILIES,
     *fall_cases.FAMILIES,
+    *tally_cases.FAMILIES,
 )
 
 

@@ -8,7 +8,7 @@ from independent.call_cases import tape_at
 from independent.edges import ANY_FALLS, ANY_SYSTEMS, EDGE_LINES, EDGE_RECORDS, FALLS, HIGHEST
 from independent.edges import SYSTEMS
 from independent.finished import finishing_of
-from independent.judge import NO_READY, Walk, fourth_offsets, line_after, v_written
+from independent.judge import NO_READY, fourth_offsets, line_after, v_written
 from independent.material import LEGAL, changed, inverted, other_code
 from independent.packet_cases import CALLS
 from independent.protocol import pack_slice
@@ -122,7 +122,7 @@ def falls_by_number(source):
         yield protocol.DUE_OF, (system, line, fall)
         yield protocol.WRITTEN_REFUSAL, (system, line, fall)
         walk = source.any_walk(system, line)
-        for asked in (walk, walk._replace(lines_read=0, repairs=0)):
+        for asked in (walk, walk._replace(lines_read=0, repairs=0, tally=0)):
             yield protocol.ENDS_FRAME, (asked, fall)
         yield protocol.TAKES_ROW, (walk, fall)
     # About the highest number, beyond which a fall line of the second field would be.
@@ -137,11 +137,11 @@ def falls_by_number(source):
 def due_by_words(source):
     """What is due by any fourth word, after either V."""
     for line, record, fourth in product(NEAR, EDGE_RECORDS, FOURTHS):
-        yield protocol.WALK_DUE, (Walk(525, line, *source.counts(), record), fourth)
+        yield protocol.WALK_DUE, (source.any_walk(525, line)._replace(fallen=record), fourth)
     words = (*range(512, 1_024), *range(0, 512, 5), *range(1_024, 65_536, 509))
     for line, after, fourth in product((10, 11, 19, 20, 274), (0, 1), words):
         record = 0 if after else source.random.choice(YES)
-        yield protocol.WALK_DUE, (Walk(525, line, *source.counts(), record), fourth)
+        yield protocol.WALK_DUE, (source.any_walk(525, line)._replace(fallen=record), fourth)
     for line, fourth in product(OF_625, FOURTHS):
         yield protocol.WALK_DUE, (source.any_walk(625, line), fourth)
 

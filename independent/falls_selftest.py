@@ -120,7 +120,7 @@ def byte_judge():
         (0, 0, 0), (1, 0, 0), (0, 7, 0), (1, 1, (9 << 16) + 3), (1, 2**32 - 1, (9 << 16) + 3),
     ):  # fmt: skip
         data = judge.bytes_of(by_hand(274, v))
-        yield f"V {v} after {record}", judge.capture_judge(525, 274, 0, 0, record, data), due
+        yield f"V {v} after {record}", judge.capture_judge(525, 274, 0, 0, record, 0, data), due
 
 
 def dues():
@@ -187,11 +187,11 @@ def lines_recorded():
     walk = Walk(525, 12, 5, 0, 9)
     picture = judge.bytes_of(by_hand(12, 0)[:276]) + b"\0\2\x40\0" * 720
     got = tapes.record(walk, 12, BLACK_ROW, *NO_READY, line)
-    after = 525, 13, 6, 0, 1
+    after = 525, 13, 6, 0, 1, 0
     yield "row", got, (0, 0, CLEAN_REPORT, after, NO_PACKETS, picture)
     got = tapes.record(walk, 13, b"", *NO_READY, line)
     fill = judge.bytes_of(by_hand(12, 1))
-    yield "fill", got, (0, 0, CLEAN_REPORT, (525, 13, 6, 0, 0), NO_PACKETS, fill)
+    yield "fill", got, (0, 0, CLEAN_REPORT, (525, 13, 6, 0, 0, 0), NO_PACKETS, fill)
     full = Walk(525, 12, 10_000_000, 0, 9)
     for at, fall, row, lent, refusal in (
         (walk, 21, b"", b"", (2, 0)), (full, 21, b"", b"", (2, 0)), (full, 20, b"", b"", (4, 0)),
@@ -211,12 +211,12 @@ def lines_recorded():
 
 
 def tapes_by_fall():
-    none = (0,) * 5
+    none = (0,) * 6
     for given, tape in (
-        ((525, 9, 7, 10), ((525, 9, 0, 0, 0), 7, 10, 0, 0)),
+        ((525, 9, 7, 10), ((525, 9, 0, 0, 0, 0), 7, 10, 0, 0)),
         ((525, 9, 7, 21), (none, 7, 21, 2, 0)),
         ((526, 9, 7, 21), (none, 7, 21, 1, 0)),
-        ((625, 9, 7, 21), ((625, 9, 0, 0, 0), 7, 21, 0, 0)),
+        ((625, 9, 7, 21), ((625, 9, 0, 0, 0, 0), 7, 21, 0, 0)),
     ):
         yield f"begun {given}", tapes.begin_tape(*given), tape
     tape = tapes.begin_tape(525, 10, NEVER_FULL, 11)
@@ -229,8 +229,8 @@ def tapes_by_fall():
     later = second._replace(fall=12)
     yield "ends by its fall line", tapes.tape_ends(later), 1
     yield "ends by any fall line", tapes.tape_ends(later._replace(fall=21)), 1
-    full = Tape(Walk(525, 1, 525, 3, 1), 1049, 11, 0, 0)
-    yield "turned", tapes.turned(full), ((525, 1, 0, 0, 0), 1049, 11, 0, 0)
+    full = Tape(Walk(525, 1, 525, 3, 1, 3), 1049, 11, 0, 0)
+    yield "turned", tapes.turned(full), ((525, 1, 0, 0, 0, 0), 1049, 11, 0, 0)
 
 
 def frames():

@@ -144,8 +144,8 @@ def finishings():
     yield "fresh", run, Run(625, 22, Walk(625, 22, 0, 0), 0, 0)
     yield "no system", finished.fresh_run(626, 0), Run(626, 0, Walk(0, 0, 0, 0), 1, 0)
     begun, data = finished.finishing_of(run), DAMAGED[4:]
-    one = Finishing(run._replace(walk=Walk(625, 23, 1, 1)), 1)
-    two = Finishing(run._replace(walk=Walk(625, 24, 2, 1, 1)), 1)
+    one = Finishing(run._replace(walk=Walk(625, 23, 1, 1, 0, 1)), 1)
+    two = Finishing(run._replace(walk=Walk(625, 24, 2, 1, 1, 1)), 1)
     entry = bytes(4) + b"\1\0"
     for size, due in (
         (0, (begun, 0, 0, b"")),

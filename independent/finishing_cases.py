@@ -112,7 +112,7 @@ def finishes_at_the_limit(source):
     """So many lines judged that a line, or a byte, more is refused."""
     counts = (LINES_LIMIT - 2, LINES_LIMIT - 1, LINES_LIMIT, LINES_LIMIT + 1, HIGHEST)
     for (system, line), lines in product(chosen_lines(), counts):
-        walk = Walk(system, line, lines, 0)
+        walk = Walk(system, line, lines, 5, tally=source.tally(5))
         data = lines_at(source, walk, (1, 2, 1))
         size = line_bytes(walk)
         yield protocol.FINISHING_TRAILER, (at(source, walk),)
@@ -142,7 +142,7 @@ def ended_trailers(source):
     """Trailers behind lines of every size, and behind any numbers."""
     for system, entries in product(ANY_SYSTEMS, COUNTS):
         for lines in (0, 1, 2, 1_242_756, 1_242_757, 1_251_450, LINES_LIMIT, 2**31, HIGHEST):
-            run = run_at(Walk(system, 1, lines, 0))
+            run = run_at(source.bad_walk(system, 1, lines, 0))
             yield protocol.FINISHING_TRAILER, (Finishing(run, entries),)
 
 

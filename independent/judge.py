@@ -2,10 +2,10 @@
 
 Each rule stands beside the sentence of document 01 ("Precise rules and scope
 of the build") that it obeys, given between quotation marks; those on packets
-are of request L6 of document 02, those on the line at which V falls of L1. Words
-and samples are lists of 16-bit integers, the numbers of a walk are 32-bit
-integers. A refusal is a pair of number and place; None stands where nothing is
-refused.
+are of request L6 of document 02, those on the line at which V falls of L1, those
+on the tally of L9. Words and samples are lists of 16-bit integers, the numbers of
+a walk are 32-bit integers. A refusal is a pair of number and place; None stands
+where nothing is refused.
 """
 
 import struct
@@ -80,13 +80,15 @@ def system_of(number):
 
 
 # "A walk holds system, awaited line number, lines read, repairs."; "The walk records
-# whether its last accepted line had V = 0; a fresh walk's says no."
+# whether its last accepted line had V = 0; a fresh walk's says no."; "The walk keeps a
+# tally"
 class Walk(NamedTuple):
     system: int
     line: int
     lines_read: int
     repairs: int
     fallen: int = 0
+    tally: int = 0
 
 
 # "a walk all zero"
@@ -243,6 +245,12 @@ def next_line(system, line):
     return line + 1 if line < SYSTEMS[system].lines else 1
 
 
+def line_before(system, line):
+    """The line before a line of the system."""
+    # "After the last line comes line 1.": so the last comes before it.
+    return line - 1 if line > 1 else SYSTEMS[system].lines
+
+
 def active_start(system):
     """Offset of the active part, which follows SAV."""
     return SYSTEMS[system].sav + CODE_WORDS
@@ -360,9 +368,9 @@ def walk_refusal(walk):
 
 
 def counts_refusal(walk):
-    if walk.lines_read >= LINES_LIMIT or walk.repairs > 2 * walk.lines_read:
-        return (WRONG_COUNTS, 0)
-    return None
+    too_many = walk.lines_read >= LINES_LIMIT or walk.repairs > 2 * walk.lines_read
+    # "A walk whose tally exceeds its repairs is refusal 4."
+    return (WRONG_COUNTS, 0) if too_many or walk.tally > walk.repairs else None
 
 
 def length_refusal(lengths, due, first_place=0):
@@ -465,6 +473,23 @@ def counted(count, more):
     return (count + more) % 2**32
 
 
+def begins_field(walk, due):
+    """Whether the awaited line has another F than the one before it, by their numbers."""
+    system, line = due.system, walk.line
+    # A number that is no line's has none before it.
+    is_line = 1 <= line <= SYSTEMS[system].lines
+    return is_line and due_f(system, line) != due_f(system, line_before(system, line))
+
+
+def tally_after(walk, due, report):
+    """The tally after an accepted line in which this was due."""
+    # "the number of repaired codes on accepted lines since the latest accepted line
+    # whose F differs from the accepted line before it, that line included, or since
+    # the start"; at the start there are none yet.
+    before = 0 if begins_field(walk, due) else walk.tally
+    return counted(before, repairs(report))
+
+
 def moved(walk, due, report):
     """The walk after an accepted line in which this was due, whatever the walk refuses."""
     # "An accepted line advances the line number, adds 1 to lines read and 0 to
@@ -475,6 +500,7 @@ def moved(walk, due, report):
         repairs=counted(walk.repairs, repairs(report)),
         # "whether its last accepted line had V = 0"
         fallen=1 - due.v,
+        tally=tally_after(walk, due, report),
     )
 
 

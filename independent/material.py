@@ -5,7 +5,7 @@ from random import Random
 from typing import NamedTuple
 
 from independent import judge
-from independent.edges import EDGE_RECORDS, RESERVED_WORDS, SYSTEMS
+from independent.edges import EDGE_RECORDS, HIGHEST, RESERVED_WORDS, SYSTEMS
 from independent.judge import CODE_BITS, NO_READY, fourth_offsets, line_after, samples_of
 from independent.packets import LEAST_WORDS, packet
 from independent.words import FIRST_SAMPLE, LAST_SAMPLE
@@ -201,9 +201,28 @@ class Source:
         lines_read = self.random.randrange(judge.LINES_LIMIT)
         return lines_read, self.random.randrange(2 * lines_read + 1)
 
+    def tally(self, repairs):
+        """A tally that a walk of so many repairs may hold: none, all or some of them."""
+        return self.random.choice((0, repairs, self.random.randrange(repairs + 1)))
+
+    def any_tally(self, repairs):
+        """The same, or one over the repairs, or far over them."""
+        right, over = self.tally(repairs), min(repairs + 1, HIGHEST)
+        return self.random.choice((right, right, right, over, HIGHEST))
+
+    def walk_with(self, system, line, lines_read, repairs):
+        """A walk of these counts that may have had either V before a line."""
+        record = self.random.choice(EDGE_RECORDS)
+        return judge.Walk(system, line, lines_read, repairs, record, self.tally(repairs))
+
+    def bad_walk(self, system, line, lines_read, repairs):
+        """The same, whose tally may be over its repairs."""
+        walk = self.walk_with(system, line, lines_read, repairs)
+        return walk._replace(tally=self.any_tally(repairs))
+
     def any_walk(self, system, line):
         """A walk that may have had either V before a line."""
-        return judge.Walk(system, line, *self.counts(), self.random.choice(EDGE_RECORDS))
+        return self.walk_with(system, line, *self.counts())
 
     def walk(self, system, line):
         """A walk at which the table's V may be due."""

@@ -2,8 +2,8 @@
 
 from itertools import product
 
-from independent.edges import ANY_SYSTEMS, EDGE_COUNTS, EDGE_RECORDS, EDGE_WORDS
-from independent.judge import Walk, fourth_offsets
+from independent.edges import ANY_SYSTEMS, EDGE_COUNTS, EDGE_WORDS
+from independent.judge import fourth_offsets
 from independent.material import changed, chosen_lines, edge_offsets, inverted, line_for, of_both
 from independent.material import plain_and_blank_line, stretched, word_lengths
 
@@ -46,5 +46,4 @@ def of_any_length(source, system, line, clean, lengths):
 def at_any_walk(source, lines):
     """Walks with any of system, line and counts wrong, and the line that each awaits."""
     for system, line, counts in product(ANY_SYSTEMS, lines, EDGE_COUNTS):
-        record = source.random.choice(EDGE_RECORDS)
-        yield Walk(system, line, *counts, record), line_for(source, system, line)
+        yield source.bad_walk(system, line, *counts), line_for(source, system, line)

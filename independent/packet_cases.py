@@ -6,7 +6,6 @@ from independent import judge, protocol
 from independent.call_cases import JUDGING, LENDING, READING, judge_bytes, judge_words
 from independent.call_cases import lines_from, run_at
 from independent.edges import EDGE_COUNTS, EDGE_WORDS, HIGHEST_WIDE, SYSTEMS
-from independent.judge import Walk
 from independent.material import LEGAL, Source, changed, chosen_lines, edge_offsets, inverted
 from independent.material import line_numbers, of_both, plain_and_blank_line
 from independent.offered import of_any_length
@@ -312,8 +311,8 @@ def captioned_walks(source):
     for system, line in chosen_lines():
         words = source.captioned(system, line)
         numbers = (system + 1, line), (system, 0), (system, judge.SYSTEMS[system].lines + 1)
-        walks = [Walk(*pair, *source.counts()) for pair in numbers]
-        walks += [Walk(system, line, *counts) for counts in EDGE_COUNTS]
+        walks = [source.any_walk(*pair) for pair in numbers]
+        walks += [source.bad_walk(system, line, *counts) for counts in EDGE_COUNTS]
         lengths = of_any_length(source, system, line, words, (0, 4, 11, 1_440, 2_000))
         for walk, lent in (*((walk, words) for walk in walks), *lengths):
             for call in (judge_words, judge_bytes, *LENDING):

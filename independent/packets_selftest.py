@@ -150,7 +150,7 @@ def refused_ready_words():
 def recorded_packets():
     walk, row, line = Walk(625, 22, 5, 0), b"", bytes(3456)
     answer = tapes.record(walk, TABLE_FALL, row, CAPTION, EMPTY, line)
-    yield "recorded", answer[:5], (0, 0, CLEAN_REPORT, (625, 23, 6, 0, 0), (9, 7))
+    yield "recorded", answer[:5], (0, 0, CLEAN_REPORT, (625, 23, 6, 0, 0, 0), (9, 7))
     yield "recorded line", answer[5], judge.bytes_of(written(625, 22, CAPTION, EMPTY)[2])
     yield "extracted", tapes.extract(walk, answer[5], bytes(1920))[4], (9, 7)
     plain = Walk(625, 23, 5, 0)

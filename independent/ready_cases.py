@@ -7,7 +7,7 @@ from typing import NamedTuple
 from independent import judge, protocol
 from independent.call_cases import tape_at
 from independent.due_cases import any_dues, room
-from independent.edges import FALLS
+from independent.edges import FALLS, HIGHEST
 from independent.judge import LINES_LIMIT, TABLE_FALL, Due, Walk, line_after, samples_of
 from independent.material import changed, chosen_lines, line_numbers, of_both
 from independent.material import plain_and_blank_line
@@ -210,8 +210,11 @@ def faults_in(source):
         ("walk", lambda walk: walk._replace(system=0)),
         ("walk", lambda walk: walk._replace(line=0)),
         ("walk", lambda walk: walk._replace(lines_read=LINES_LIMIT)),
+        ("walk", lambda walk: walk._replace(repairs=2 * walk.lines_read + 1)),
+        ("walk", lambda walk: walk._replace(tally=walk.repairs + 1)),
         ("tape", lambda tape: tape._replace(number=judge.NOT_A_SAMPLE, place=9)),
         ("tape", lambda tape: tape._replace(walk=tape.walk._replace(line=0))),
+        ("tape", lambda tape: tape._replace(walk=tape.walk._replace(tally=HIGHEST))),
         ("tape", lambda tape: tape._replace(fall=tape.fall + 1)),
         ("words", shortened),
         ("data", shortened),

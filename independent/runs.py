@@ -110,6 +110,19 @@ def repaired_codes(source):
             yield recording(system, start, low), FILE
 
 
+def repaired_fields(source):
+    """Lines over each change of F, and a frame and more, with none to two codes repaired."""
+    masks = [0, *inverted(1)]
+    for system, start, count in (
+        (525, 1, 8), (525, 263, 8), (525, 522, 12), (625, 310, 8), (625, 622, 8),
+        (525, 300, 600), (625, 200, 700),
+    ):  # fmt: skip
+        lines = clean_lines(source, system, start, count)
+        repaired = [source.with_inversions(system, words, masks) for words in lines]
+        yield recording(system, start, repaired), PIPE
+        yield recording(system, start, repaired) + b"\0", FILE
+
+
 def replaced(lines, n, changes):
     """The lines with words of the n-th changed."""
     return [*lines[:n], changed(lines[n], changes), *lines[n + 1 :]]
@@ -261,6 +274,7 @@ FAMILIES = (
     cuts,
     frames,
     repaired_codes,
+    repaired_fields,
     refused_words,
     refused_codes,
     foreign_lines,

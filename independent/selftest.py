@@ -7,7 +7,7 @@ import sys
 
 from independent import calls_selftest, captions_selftest, command_selftest, falls_selftest
 from independent import finished_selftest, judge, packets_selftest, programme_selftest
-from independent import wrong_models
+from independent import tally_selftest, wrong_models
 from independent.edges import LISTED_LENGTHS, LISTED_LINES, LISTED_SAMPLES, LISTED_SERIAL
 from independent.judge import CLEAN_REPORT, FRESH_STATE, NO_READY, TABLE_FALL, Report, Walk
 from independent.judge import fourth_offsets
@@ -85,7 +85,7 @@ def listed_lines():
     for line in LISTED_LINES:
         for system in judge.SYSTEMS:
             due = line in range(1, system + 1)
-            expected = (0, 0, (system, line, 0, 0, 0)) if due else (2, 0, (0, 0, 0, 0, 0))
+            expected = (0, 0, (system, line, 0, 0, 0, 0)) if due else (2, 0, (0,) * 6)
             yield f"fresh {system} {line}", judge.fresh(system, line), expected
 
 
@@ -101,7 +101,7 @@ def listed_lengths():
 def listed_counts():
     line = written(525, 525)
     answer = reading(525, 525, line, lines_read=9_999_999)
-    yield "9,999,999 lines read", answer[:4], (0, 0, CLEAN_REPORT, (525, 1, 10_000_000, 0, 1))
+    yield "9,999,999 lines read", answer[:4], (0, 0, CLEAN_REPORT, (525, 1, 10_000_000, 0, 1, 0))
     answer = reading(525, 525, line, lines_read=10_000_000)
     yield "10,000,000 lines read", answer[:2], (4, 0)
 
@@ -145,10 +145,10 @@ def drawn_errors():
         yield "631 read", reading(system, 100, low)[:3], (0, 0, CLEAN_REPORT)
         last = judge.SYSTEMS[system].words - 1
         bad = changed(line, {last: 1023})
-        kept = (11, last, CLEAN_REPORT, (system, 100, 4, 1, 0), *buffers(9))
+        kept = (11, last, CLEAN_REPORT, (system, 100, 4, 1, 0, 0), *buffers(9))
         yield "bad last word", reading(system, 100, bad, 4, 1), kept
         both = changed(line, {eav: line[eav] ^ 4, sav: line[sav] ^ 256})
-        counted = (0, 0, Report(1, 2, 1, 8), (system, 101, 5, 3, 1), *buffers())
+        counted = (0, 0, Report(1, 2, 1, 8), (system, 101, 5, 3, 1, 2), *buffers())
         yield "two repaired codes", reading(system, 100, both, 4, 1), counted
 
 
@@ -159,7 +159,8 @@ def orders_of_refusal():
         ((625, 0, 10_000_000, 0), (2, 0)),
         ((625, 1, 10_000_000, 0), (4, 0)),
         ((625, 1, 3, 7), (4, 0)),
-        ((625, 1, 3, 6), (3, 0)),
+        ((625, 1, 3, 6, 0, 7), (4, 0)),
+        ((625, 1, 3, 6, 0, 6), (3, 0)),
     )
     for walk, expected in cases:
         yield f"order at {walk}", in_turn(Walk(*walk), short, [], [], [])[:2], expected
@@ -235,10 +236,10 @@ def captures():
         ({last: 1024}, (5 << 16) + last),
     ):
         data = pack_slice(changed(line, changes))
-        yield f"bytes {changes}", judge.capture_judge(625, 100, 0, 0, 0, data), expected
+        yield f"bytes {changes}", judge.capture_judge(625, 100, 1, 2, 0, 2, data), expected
     odd = pack_slice(line)[:-1]
-    yield "bytes odd", judge.capture_judge(625, 100, 0, 0, 0, odd), 3 << 16
-    yield "bytes counted out", judge.capture_judge(625, 100, 10**7, 0, 0, odd), 4 << 16
+    yield "bytes odd", judge.capture_judge(625, 100, 0, 0, 0, 0, odd), 3 << 16
+    yield "bytes counted out", judge.capture_judge(625, 100, 10**7, 0, 0, 0, odd), 4 << 16
 
 
 def confirmed_runs():
@@ -280,6 +281,7 @@ GROUPS = (
     *packets_selftest.GROUPS,
     *captions_selftest.GROUPS,
     *falls_selftest.GROUPS,
+    *tally_selftest.GROUPS,
     *wrong_models.GROUPS,
     *finished_selftest.GROUPS,
 )

@@ -7,7 +7,7 @@ from independent.call_cases import any_walks, full_pieces, tape_at
 from independent.calls import Filled, Told
 from independent.edges import ANY_FALLS, ANY_SYSTEMS, EDGE_LINES, EDGE_NUMBERS, EDGE_SUMS
 from independent.edges import FALLS, HIGHEST, MOSTS, SYSTEMS
-from independent.judge import LINES_LIMIT, NO_READY, Walk
+from independent.judge import LINES_LIMIT, NO_READY
 from independent.material import chosen_lines
 from independent.protocol import Wide
 from independent.recordings import line_bytes
@@ -52,7 +52,7 @@ def any_tapes(source):
 
 def turning_tapes(source):
     """A frame more at, one below and one over the most lines."""
-    for walk, most in full_pieces():
+    for walk, most in full_pieces(source):
         refusals = (judge.WRONG_LENGTH, 1), (judge.NOT_A_SAMPLE, 1_439)
         number, place = source.random.choice((judge.ACCEPTED, judge.ACCEPTED, *refusals))
         tape = Tape(walk, most, source.random.choice(ANY_FALLS), number, place)
@@ -68,12 +68,13 @@ def ending_tapes(source):
         for line in range(lines + 2):
             fall = source.random.choice(FALLS)
             for lines_read, repairs in counts:
-                tape = Tape(Walk(system, line, lines_read, repairs), LINES_LIMIT, fall, 0, 0)
+                walk = source.walk_with(system, line, lines_read, repairs)
+                tape = Tape(walk, LINES_LIMIT, fall, 0, 0)
                 yield protocol.TAPE_ENDS, (tape,)
             yield protocol.TAPE_ENDS, (tape._replace(number=judge.WRONG_COUNTS),)
-            refused = Tape(Walk(system, line, 7, 0), 0, fall, judge.NOT_A_SAMPLE, 9)
+            refused = Tape(source.bad_walk(system, line, 7, 3), 0, fall, judge.NOT_A_SAMPLE, 9)
             yield protocol.TAPE_ENDS, (refused,)
-            full = Tape(Walk(system, line, lines, 0), 2 * lines - 1, fall, 0, 0)
+            full = Tape(source.bad_walk(system, line, lines, 3), 2 * lines - 1, fall, 0, 0)
             yield protocol.TURNS, (full,)
             yield protocol.TURNED, (full,)
 
@@ -97,7 +98,7 @@ def tapes_at_the_limit(source):
         ends = (1, 22, 23, judge.SYSTEMS[system].lines)
         for line, most in product(ends, (0, LINES_LIMIT, HIGHEST)):
             fall = source.random.choice(FALLS)
-            tape = Tape(Walk(system, line, lines_read, 0), most, fall, *judge.ACCEPTED)
+            tape = Tape(source.walk_with(system, line, lines_read, 3), most, fall, *judge.ACCEPTED)
             yield from asked(tape)
             row, room = row_of(source.picture()), line_bytes(tape.walk)
             yield protocol.TAPE_NEXT, (tape, row, *NO_READY, source.junk_bytes(room))

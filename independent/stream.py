@@ -64,6 +64,7 @@ def expected_outcome(run):
     after = recordings.run_on(begun, whole)
     assert after.number == 0 and after.walk.line == run.start
     times = run.lines // after.walk.lines_read - 1
+    # The last line's V and the tally of its field are those at the end of every frame.
     counts = {name: times * getattr(after.walk, name) for name in ("lines_read", "repairs")}
     before_last = begun._replace(walk=after.walk._replace(**counts))
     run_out = recordings.run_on(before_last, whole + last_bytes(run, whole))

@@ -1,23 +1,23 @@
-"""Wrong models of packets and of V's fall, errors one is drawn to: the cases must notice them."""
+"""Wrong models of packets, V's fall and the tally, errors one is drawn to: cases must notice."""
 
 from functools import lru_cache
 from itertools import chain, cycle
 from unittest.mock import patch
 
 from independent import camera_cases, caption_cases, captions, command, fall_cases, judge, kinds
-from independent import packet_cases, packets, programme, ready_cases, tapes
+from independent import packet_cases, packets, programme, protocol, ready_cases, tally_cases, tapes
 from independent.captions import HEAD
 from independent.cases import cases
 from independent.command import Extracting
-from independent.compare import SEED
-from independent.edges import FALLS
+from independent.compare import ALL, SEED
+from independent.edges import FALLS, HIGHEST
 from independent.entries import Entries
-from independent.judge import TABLE_FALL, PacketWords
+from independent.judge import TABLE_FALL, PacketWords, Walk
 from independent.material import Choice, Source
 from independent.packets import COUNT, LEAST_WORDS, START, Space
 from independent.programme import Recorder
 from independent.words import ACCEPTED, BAD_PARITY, NO_FILL, OVER_A_WORD, PAST_THE_SPACE
-from independent.words import RESERVED, WRONG_LENGTH, first_fault, over_number
+from independent.words import RESERVED, WRONG_COUNTS, WRONG_LENGTH, first_fault, over_number
 
 # Families of few or small cases.
 FAMILIES = (
@@ -63,6 +63,18 @@ CAMERA_FAMILIES = (
     camera_cases.read_falls,
 )
 
+# The same of the tally.
+TALLY_FAMILIES = (
+    tally_cases.tallies_by_field,
+    tally_cases.tallies_by_v,
+    tally_cases.tallies_standing,
+    tally_cases.tallies_refused,
+    tally_cases.tallies_moved,
+    tally_cases.tallies_over_32_bits,
+    tally_cases.tallies_recorded,
+    tally_cases.tallies_on_tapes,
+)
+
 # How many cases of each family are tried.
 FEW = Choice(first=20, step=7)
 
@@ -75,6 +87,9 @@ BEGIN_PIECE, PUT_ENTRIES = Recorder.begin_piece, Recorder.put_entries
 WRITE_PICTURE, WRITE_PACKETS = Extracting.write_picture, Extracting.write_packets
 MOVED, REFUSED, VS_DUE, IS_FALL = judge.moved, judge.refused, judge.vs_due, judge.is_fall
 DUE_WRITTEN, TURNED, BEGIN = tapes.due_written, tapes.turned, programme.begin
+BEGINS_FIELD, TALLY_AFTER, REPAIRS = judge.begins_field, judge.tally_after, judge.repairs
+WALK_REFUSAL, COUNTS_REFUSAL = judge.walk_refusal, judge.counts_refusal
+JUDGED, CAPTURE_JUDGE, NO_WALK = judge.judged, judge.capture_judge, judge.NO_WALK
 
 
 def eight_bit_checksum(words):
@@ -389,6 +404,154 @@ WRONG_CAMERAS = (
 )
 
 
+def begun_by_v(walk, due):
+    return due.v != (0 if walk.fallen else 1)
+
+
+def begun_by_either(walk, due):
+    return BEGINS_FIELD(walk, due) or begun_by_v(walk, due)
+
+
+def begun_a_line_late(walk, due):
+    before = judge.line_before(due.system, walk.line)
+    return BEGINS_FIELD(walk._replace(line=before), due)
+
+
+def begun_a_line_early(walk, due):
+    return BEGINS_FIELD(walk._replace(line=judge.next_line(due.system, walk.line)), due)
+
+
+def begun_by_due(walk, due):
+    return due.f != judge.due_f(due.system, judge.line_before(due.system, walk.line))
+
+
+def begun_by_own_system(walk, due):
+    return BEGINS_FIELD(walk, due._replace(system=judge.system_of(walk.system)))
+
+
+def own_repairs_left_out(walk, due, report):
+    return 0 if BEGINS_FIELD(walk, due) else TALLY_AFTER(walk, due, report)
+
+
+def cleared_behind_field(walk, due, report):
+    return 0 if begun_a_line_early(walk, due) else TALLY_AFTER(walk, due, report)
+
+
+def lines_tallied(walk, due, report):
+    before = 0 if BEGINS_FIELD(walk, due) else walk.tally
+    return judge.counted(before, min(REPAIRS(report), 1))
+
+
+def tally_of_all(walk, due, report):
+    return judge.counted(walk.repairs, REPAIRS(report))
+
+
+def tally_that_stops(walk, due, report):
+    before = 0 if BEGINS_FIELD(walk, due) else walk.tally
+    return min(before + REPAIRS(report), HIGHEST)
+
+
+def before_line_1_is_0(system, line):
+    return max(line - 1, 0)
+
+
+def refused_if(wrong):
+    return (WRONG_COUNTS, 0) if wrong else None
+
+
+def equal_refused(walk):
+    return COUNTS_REFUSAL(walk) or refused_if(walk.tally == walk.repairs > 0)
+
+
+def over_accepted(walk):
+    return COUNTS_REFUSAL(walk._replace(tally=0))
+
+
+def over_twice_lines(walk):
+    return over_accepted(walk) or refused_if(walk.tally > 2 * walk.lines_read)
+
+
+def tally_before_numbers(walk):
+    return refused_if(walk.tally > walk.repairs) or WALK_REFUSAL(walk)
+
+
+def tally_behind_length(walk, words):
+    refusal = WALK_REFUSAL(walk._replace(tally=0)) or judge.words_refusal(walk.system, words)
+    refusal = refusal or WALK_REFUSAL(walk)
+    return REFUSED(walk, *refusal) if refusal else JUDGED(walk, words)
+
+
+def recorded_at_any_tally(walk, fall):
+    return judge.numbers_refusal(*walk[:2], fall) or over_accepted(walk)
+
+
+def refused_without_tally(walk, number, place):
+    return REFUSED(walk._replace(tally=0), number, place)
+
+
+def refused_as_moved(walk, number, place):
+    if WALK_REFUSAL(walk):
+        return REFUSED(walk, number, place)
+    due = judge.due_of(walk.system, walk.line)
+    return REFUSED(walk._replace(tally=0 if BEGINS_FIELD(walk, due) else walk.tally), number, place)
+
+
+def turned_with_tally(tape):
+    turned = TURNED(tape)
+    return turned._replace(walk=turned.walk._replace(tally=tape.walk.tally))
+
+
+def byte_judge_without_tally(*arguments):
+    *numbers, data = arguments
+    return CAPTURE_JUDGE(*Walk(*numbers)._replace(tally=0), data)
+
+
+def kinds_with(kind, call):
+    """All kinds, one of them with another call."""
+    return {**kinds.KINDS, kind: kinds.KINDS[kind]._replace(call=call)}
+
+
+WRONG_TALLIES = (
+    ("V begins a count", judge, "begins_field", begun_by_v),
+    ("F and V begin a count", judge, "begins_field", begun_by_either),
+    ("no line begins a count", judge, "begins_field", lambda walk, due: False),
+    ("every line begins a count", judge, "begins_field", lambda walk, due: True),
+    ("a count begins a line late", judge, "begins_field", begun_a_line_late),
+    ("a count begins a line early", judge, "begins_field", begun_a_line_early),
+    ("before line 1 comes line 0", judge, "line_before", before_line_1_is_0),
+    ("the first line's repairs are left out", judge, "tally_after", own_repairs_left_out),
+    ("the tally is cleared behind a field", judge, "tally_after", cleared_behind_field),
+    ("lines are tallied and not codes", judge, "tally_after", lines_tallied),
+    ("the tally is that of all lines", judge, "tally_after", tally_of_all),
+    ("a tally equal to the repairs is refused", judge, "counts_refusal", equal_refused),
+    ("a tally over the repairs is taken", judge, "counts_refusal", over_accepted),
+    ("only a tally over twice the lines is refused", judge, "counts_refusal", over_twice_lines),
+    ("a refusal forgets the tally", judge, "refused", refused_without_tally),
+    ("a refused line begins a count", judge, "refused", refused_as_moved),
+    ("a walk begins with one repair", judge, "NO_WALK", NO_WALK._replace(tally=1)),
+    ("F goes by what was due", judge, "begins_field", begun_by_due),
+    ("F goes by the walk's system", judge, "begins_field", begun_by_own_system),
+    ("the tally stops at 32 bits", judge, "tally_after", tally_that_stops),
+    ("lines are recorded at any tally", tapes, "written_walk_refusal", recorded_at_any_tally),
+    (
+        "a next recording has the tally of the last",
+        kinds, "KINDS", kinds_with(protocol.TURNED, turned_with_tally),
+    ),
+    (
+        "the byte judge is given no tally",
+        kinds, "KINDS", kinds_with(protocol.CAPTURE_JUDGE, byte_judge_without_tally),
+    ),
+)  # fmt: skip
+
+WRONG_ORDERS = (
+    ("the tally comes before 1 and 2", judge, "walk_refusal", tally_before_numbers),
+    ("the tally comes behind 3", judge, "judged", tally_behind_length),
+)
+
+# Those that a few lines in turn show as well.
+WRONG_IN_TURN = WRONG_TALLIES[:12]
+
+
 @lru_cache(maxsize=None)
 def right_answers(families, choice):
     """Some cases of families, and the answers that are due."""
@@ -450,4 +613,24 @@ def wrong_cameras():
     return noticed_commands(WRONG_CAMERAS, camera_cases, CAMERA_FAMILIES)
 
 
-GROUPS = (wrong_models, wrong_commands, wrong_falls, wrong_cameras)
+def wrong_tallies():
+    return noticed_answers(WRONG_TALLIES, TALLY_FAMILIES)
+
+
+def wrong_orders():
+    return noticed_answers(WRONG_ORDERS, (tally_cases.tallies_in_order,), ALL)
+
+
+def wrong_in_turn():
+    return noticed_answers(WRONG_IN_TURN, (tally_cases.fields_line_by_line,), ALL)
+
+
+GROUPS = (
+    wrong_models,
+    wrong_commands,
+    wrong_falls,
+    wrong_cameras,
+    wrong_tallies,
+    wrong_orders,
+    wrong_in_turn,
+)

@@ -92,7 +92,7 @@ small-walk w =
     small-orElse (namedRefusal (w .system) (w .line)) _
     (small-orElse (systemRefusal (w .system)) _ (small-refuse (not (isSystem (w .system))) noSystem (omega arith) (λ z. omega arith))
     (small-orElse (numberRefusal (w .system) (w .line)) none (small-refuse (not (isLine (w .system) (w .line))) noLine (omega arith) (λ z. omega arith)) small-none))
-    (small-refuse (leb mostLines (w .lines) || ltb (2 * w .lines) (w .repairs)) badCounts (omega arith) (λ z. omega arith))
+    (small-refuse (leb mostLines (w .lines) || (ltb (2 * w .lines) (w .repairs) || ltb (w .repairs) (w .tally))) badCounts (omega arith) (λ z. omega arith))
 
 pub small-bytes : (w : Walk) (bytes : List ℕ) → Small (bytesRefusal w bytes)
 small-bytes w bytes =

@@ -1,7 +1,7 @@
 -- The promises on the calls from C, of the definitions that their contracts cite. Assumes nothing.
 use Prim.Native.Nat.{ℕ, _+_, _*_, _/_, _%_, _<_, _≤_}
 use mathlib.Core.Path.{_≡_, refl, sym, ap, subst, _∙_}
-use mathlib.Core.Bool.{cond}
+use mathlib.Core.Bool.{Bool, cond}
 use mathlib.Core.List.{List}
 use native.Mathlib.Omega.{arith}
 use lib.Dec.{eqb}
@@ -22,14 +22,17 @@ use Rattle.timing.proofs.Theorems.{correction-exact}
 use Rattle.timing.specs.Report.{repairsOf}
 use Rattle.system.specs.declared.walk.Walk.{Walk}
 use Rattle.system.specs.declared.walk.Judgement.{Judgement}
-use Rattle.system.specs.Figures.{lineLength, systemOf}
+use Rattle.system.specs.declared.System.{System}
+use Rattle.system.specs.Figures.{lineLength, systemOf, turnsField}
 use Rattle.system.specs.Walk.{lineWords, lineBytes, dueIn, advancedOf}
 use Rattle.system.proofs.Laws.{due-system, line-is-parts}
+use Rattle.system.proofs.Turns.{turns-525, turns-625}
+use Rattle.reader.specs.Judge.{reportOf}
 use Rattle.reader.proofs.Judged.{accepted}
 use Rattle.bytewise.specs.Bytes.{judgedBytes}
 use Rattle.bytewise.specs.Refusals.{bytesRefusals}
 use Rattle.bytewise.proofs.Theorems.{bytes-exact, bytes-number, bytes-accepted-advances}
-use Rattle.capture.specs.Answer.{inOneNumber, correctedOf, correctAnswer, judgeAnswer, fallenIn, toldBy}
+use Rattle.capture.specs.Answer.{inOneNumber, correctedOf, correctAnswer, judgeAnswer, fallenIn, turnsOn, tallyKept, toldBy}
 use Rattle.capture.proofs.Bounds.{Small, small-bytes, repairs-low}
 use Rattle.capture.proofs.Kept.{kept}
 
@@ -98,6 +101,25 @@ capture-judge-record w bytes e =
     ap (λ (j : Judgement). j .walk .fallen) (bytes-accepted-advances w bytes z)
     ∙ sym (kept d (wordsOf bytes) (size ∙ ap lineLength (sym (due-system w _))) (stood .well))
     ∙ ap (λ (word : ℕ). fallenIn (correctAnswer word)) (word-at bytes (lineWords w) (stood .size) 3 (omega (arith, line-is-parts (systemOf (w .system)))))
+
+-- And what it has a caller keep of the tally, by the line's number and the answer, is the tally of the walk behind it.
+turns-on : (system line : ℕ) → turnsField (systemOf system) line ≡ turnsOn system line
+unfolding systemOf
+turns-on system line = by-test (eqb system 525) (λ t. simp t (turns-525 line)) (λ f. simp f (turns-625 line))
+
+pub capture-judge-tally : (w : Walk) (bytes : List ℕ) → judgedBytes w bytes .number ≡ 0
+    → judgedBytes w bytes .walk .tally ≡ tallyKept w (judgeAnswer w bytes)
+unfolding advancedOf
+capture-judge-tally w bytes e =
+    let z = sym (same-number (bytes-number w bytes)) ∙ e in
+    let d = dueIn w (wordsOf bytes) in
+    let report = reportOf d (wordsOf bytes) in
+    let advances = bytes-accepted-advances w bytes z in
+    let counted = ap (λ (j : Judgement). repairsOf (j .report)) (sym advances) ∙ sym (capture-judge-repairs w bytes e) in
+    ap (λ (j : Judgement). j .walk .tally) advances
+    ∙ ap (λ (s : System). cond (turnsField s (w .line)) 0 (w .tally) + repairsOf report) (due-system w _)
+    ∙ ap (λ (t : Bool). cond t 0 (w .tally) + repairsOf report) (turns-on (w .system) (w .line))
+    ∙ ap (tallyKept w) counted
 
 -- Two results allowed for one line are the same.
 pub capture-judge-one-result : (w : Walk) (bytes : List ℕ) (r s : ℕ) → r ≡ judgeAnswer w bytes → s ≡ judgeAnswer w bytes → r ≡ s

@@ -1,6 +1,6 @@
 -- Document 01, "The confirming program and the capture process": what the calls from C answer.
 use Prim.Native.Nat.{ℕ, _+_, _*_, _/_, _%_}
-use mathlib.Core.Bool.{cond}
+use mathlib.Core.Bool.{Bool, cond, _||_}
 use mathlib.Core.List.{List}
 use lib.Dec.{eqb}
 use Rattle.refusal.specs.declared.Refusal.{Refusal}
@@ -34,6 +34,14 @@ judgeAnswer w bytes =
 -- Document 02, L1, "The byte judge takes the record": what a caller keeps of an accepted line, whether V is 0 in bit 7 of the answer to its EAV
 abbrev pub fallenIn : ℕ → ℕ
 fallenIn answer = cond (eqb (answer / 128 % 2) 0) 1 0
+
+-- Document 02, L9: what a caller keeps of the tally, which starts anew on the lines whose F differs from that of the line before, 4 and 266 in
+-- 525, 1 and 313 in 625; the answer to the line is added
+abbrev pub turnsOn : ℕ → ℕ → Bool
+turnsOn system line = cond (eqb system 525) (eqb line 4 || eqb line 266) (eqb line 1 || eqb line 313)
+
+abbrev pub tallyKept : Walk → ℕ → ℕ
+tallyKept w answer = cond (turnsOn (w .system) (w .line)) 0 (w .tally) + answer
 
 -- the refusal that an answer tells: below 65,536 it is none
 abbrev pub toldBy : ℕ → Refusal

@@ -24,7 +24,8 @@ pub extern "C" fn fiskrogn_correct(word: u32) -> u32
 }
 
 // Judges the line that a walk awaits, lent as bytes, two per word, low byte first: 65,536 times a refusal's number plus its place, or the
-// line's repairs. The walk is given by all that it holds, its record of V among it, 0 for no and anything else for yes, and none is handed back.
+// line's repairs. The walk is given by all that it holds, its record of V among it, 0 for no and anything else for yes, and its tally, and none
+// is handed back.
 #[no_mangle]
 pub extern "C" fn fiskrogn_judge(
     system: u32,
@@ -32,11 +33,12 @@ pub extern "C" fn fiskrogn_judge(
     lines_read: u32,
     repairs: u32,
     fallen: u32,
+    tally: u32,
     bytes: &[u8],
 ) -> u32
-    ensures { λ r. ⌜ r ≡ judgeAnswer (record { system = system; line = line; lines = «lines_read»; repairs = repairs; fallen = fallen }) (now (bytes .entry)) ⌝ }
+    ensures { λ r. ⌜ r ≡ judgeAnswer (record { system = system; line = line; lines = «lines_read»; repairs = repairs; fallen = fallen; tally = tally }) (now (bytes .entry)) ⌝ }
 {
-    let walk = Walk::of(system, line, lines_read, repairs, fallen);
+    let walk = Walk::of(system, line, lines_read, repairs, fallen, tally);
     let judgement = bytewise::judge(walk, bytes);
     if judgement.number != 0 {
         return 65536 * judgement.number + judgement.place as u32;

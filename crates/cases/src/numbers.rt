@@ -81,6 +81,7 @@ impl Numbers {
             .with(walk.lines)
             .with(walk.repairs)
             .with(walk.fallen)
+            .with(walk.tally)
     }
 
     // Whether a code was repaired, and the bit.

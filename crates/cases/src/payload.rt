@@ -51,9 +51,9 @@ fn next(payload: &[u8], at: usize, numbers: u8) -> u32 {
 }
 
 // The bytes of the numbers that tell a walk.
-pub const WALK: usize = 20;
+pub const WALK: usize = 24;
 
-// The walk that five numbers tell.
+// The walk that six numbers tell.
 pub fn walk(payload: &[u8], at: usize) -> Walk {
     Walk::of(
         number(payload, at),
@@ -61,6 +61,7 @@ pub fn walk(payload: &[u8], at: usize) -> Walk {
         next(payload, at, 2),
         next(payload, at, 3),
         next(payload, at, 4),
+        next(payload, at, 5),
     )
 }
 

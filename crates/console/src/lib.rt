@@ -290,11 +290,13 @@ fn pictures(walk: Walk) -> u32 {
     }
 }
 
-// How far a walk is, on one line of the terminal.
+// How far a walk is, on one line of the terminal. The repairs of this field may grow shorter, so what stood behind them is cleared.
 pub fn show(walk: Walk) {
     say(STDERR_FILENO, b"\rlines ", walk.lines as u64);
     say(STDERR_FILENO, b" pictures ", pictures(walk) as u64);
     say(STDERR_FILENO, b" repairs ", walk.repairs as u64);
+    say(STDERR_FILENO, b" in this field ", walk.tally as u64);
+    io::write_all(STDERR_FILENO, b"\x1b[K");
 }
 
 // The same in a loop that has so many turns left: at some of them, and where progress is shown.

@@ -77,6 +77,7 @@ fn judged_in_c(walk: Walk, bytes: &[u8]) -> u32 {
         walk.lines,
         walk.repairs,
         walk.fallen,
+        walk.tally,
         bytes,
     )
 }

@@ -24,9 +24,9 @@ fn begun_walk(system: u32, start: u32, refused: u32) -> Walk
     ensures { λ r. ⌜ r ≡ cond (eqb refused 0) (freshWalk system start) (freshWalk 0 0) ⌝ }
 {
     if refused != 0 {
-        return Walk::of(0, 0, 0, 0, 0);
+        return Walk::of(0, 0, 0, 0, 0, 0);
     }
-    Walk::of(system, start, 0, 0, 0)
+    Walk::of(system, start, 0, 0, 0, 0)
 }
 
 impl Tape {

@@ -1,7 +1,7 @@
 -- Demand 3 of the confirming program: what went in is confirmed, and nothing else ever is. A run over the bytes of lines goes as reading
 -- their words does, so that the theorems on reading line by line carry over. Assumes nothing.
 use Prim.Native.Nat.{ℕ, zero, suc, _+_, _<_, _≤_}
-use mathlib.Core.Path.{_≡_, refl, sym, ap, subst, _∙_}
+use mathlib.Core.Path.{_≡_, refl, sym, ap, _∙_}
 use mathlib.Core.List.{List, [], _∷_, _++_, map, flatten, append-nil, append-assoc, map-append}
 use mathlib.Core.List.{List·Memᴰ, List·Memᴰ·head, List·Memᴰ·tail, List·Memᴰ·not-nil, List·Memᴰ·cases-cons}
 use mathlib.Core.Logic.{⊎-elim}
@@ -16,6 +16,7 @@ use Rattle.system.specs.Figures.{lineLength, systemOf}
 use Rattle.system.specs.Walk.{mostLines, walkRefusal, freshWalk, freshOf, lineBytes}
 use Rattle.system.proofs.Laws.{Good, good-accepted, fresh-accepted, named-accepted, walk-many-lines}
 use Rattle.system.proofs.Falls.{fresh-may}
+use Rattle.system.proofs.Tally.{field-few}
 use Rattle.line.specs.Samples.{Samples, Content}
 use Rattle.line.specs.Fit.{Measured}
 use Rattle.system.specs.declared.walk.Judgement.{Judgement}
@@ -149,13 +150,13 @@ whole-lines (suc k) r (x ∷ bytes) l z =
     }
 
 -- an image tells as many lines as it has
-as-many-read : {system line fallen altered : ℕ} {ls : List Line} {reads : List (List ℕ)} → Image system line fallen ls reads altered
+as-many-read : {system line fallen : ℕ} {altered : List ℕ} {ls : List Line} {reads : List (List ℕ)} → Image system line fallen ls reads altered
     → length ls ≡ length reads
 as-many-read no-line = refl
 as-many-read (line-more room may written dam he hs more) = ap suc (as-many-read more)
 
 -- A, of the confirming program. An image of at most 10,000,000 lines is confirmed, and repairs are exactly the altered codes; so is a recording.
-pub image-confirmed : {bytes : List ℕ} {system start altered : ℕ} {ls : List Line} {lines : List (List ℕ)}
+pub image-confirmed : {bytes : List ℕ} {system start : ℕ} {altered : List ℕ} {ls : List Line} {lines : List (List ℕ)}
     → freshOf system start .number ≡ 0 → Holds bytes system start lines []
     → Image system start 0 ls (map wordsOf lines) altered → length ls ≤ mostLines
     → confirmedOf bytes ≡ record { system = system; start = start; walk = walkBehind system start ls altered; number = 0; place = 0 }
@@ -164,7 +165,7 @@ image-confirmed {system = system} {start = start} hf holds image hn =
     ∙ ap (λ (p : Played). bodyOf (runAfter system start p) []) (image-read hf image hn blank blank-measured)
     ∙ body-none _
 
-pub recording-confirmed : {bytes : List ℕ} {system fall start altered : ℕ} {cs : List Content} {lines : List (List ℕ)}
+pub recording-confirmed : {bytes : List ℕ} {system fall start : ℕ} {altered : List ℕ} {cs : List Content} {lines : List (List ℕ)}
     → freshOf system start .number ≡ 0 → Holds bytes system start lines []
     → Recording system fall start cs (map wordsOf lines) altered → length cs ≤ mostLines
     → confirmedOf bytes
@@ -174,7 +175,7 @@ recording-confirmed {system = system} {fall = fall} {start = start} {cs = cs} hf
 
 -- C, of the confirming program. Where a code has exactly two of the seven bits inverted and no earlier code more than one, the run ends
 -- with 8 in that code's place, and the walk stands behind the lines before, whatever follows the bad line.
-pub two-inverted-not-confirmed : {bytes rest : List ℕ} {system fall start altered place : ℕ} {cs : List Content} {c : Content}
+pub two-inverted-not-confirmed : {bytes rest : List ℕ} {system fall start place : ℕ} {altered : List ℕ} {cs : List Content} {c : Content}
     (lines : List (List ℕ)) (bad : List ℕ) → freshOf system start .number ≡ 0 → Holds bytes system start (lines ++ (bad ∷ [])) rest
     → Recording system fall start cs (map wordsOf lines) altered → length cs < mostLines
     → TwoInverted system fall (lineAfterAll system start (linesOf system fall start cs)) c (wordsOf bad) place
@@ -188,12 +189,12 @@ two-inverted-not-confirmed {rest = rest} {system = system} {start = start} lines
     ∙ body-ended _ rest (λ z. omega arith)
 
 -- D, of the confirming program. Nothing else is ever confirmed: of any bytes that are, the header is accepted, all behind it are whole lines,
--- and these are an image of lines each written with a V that was due; repairs are its altered codes.
+-- and these are an image of lines each written with a V that was due; the walk is the one behind them.
 pub confirmed-is-image : (bytes : List ℕ) → confirmedOf bytes .number ≡ 0
     → (freshOf (headerSystem bytes) (headerStart bytes) .number ≡ 0)
     × (lines : List (List ℕ)) × Holds bytes (headerSystem bytes) (headerStart bytes) lines []
-    × (ls : List Line) × Image (headerSystem bytes) (headerStart bytes) 0 ls (map wordsOf lines) (confirmedOf bytes .walk .repairs)
-    × (length ls ≤ mostLines)
+    × (ls : List Line) × (altered : List ℕ) × Image (headerSystem bytes) (headerStart bytes) 0 ls (map wordsOf lines) altered
+    × (length ls ≤ mostLines) × (confirmedOf bytes .walk ≡ walkBehind (headerSystem bytes) (headerStart bytes) ls altered)
 unfolding confirmedOf begunOf
 confirmed-is-image bytes z =
     let system = headerSystem bytes in
@@ -208,12 +209,11 @@ confirmed-is-image bytes z =
     let played = confirmed-plays hf holds ∙ body-none _ in
     let accepted = ap (λ (r : Run). r .number) (sym played) ∙ z in
     let read = read-through-is-image system start hf (map wordsOf lines) blank blank-measured accepted in
-    let altered : read .1 ≡ confirmedOf bytes .walk .repairs =
-    sym (ap (λ (p : Played). p .walk .repairs) (read .4)) ∙ ap (λ (r : Run). r .walk .repairs) (sym played) in
-    (hf, lines, holds, read .0, subst (Image system start 0 (read .0) (map wordsOf lines)) altered (read .2), read .3)
+    let stands = ap (λ (r : Run). r .walk) played ∙ ap (λ (p : Played). p .walk) (read .4) in
+    (hf, lines, holds, read .0, read .1, read .2, read .3, stands)
 
 -- ---- bytes behind a recording
-module _ {bytes rest : List ℕ} {system fall start altered : ℕ} {cs : List Content} {lines : List (List ℕ)} (hf : freshOf system start .number ≡ 0)
+module _ {bytes rest : List ℕ} {system fall start : ℕ} {altered : List ℕ} {cs : List Content} {lines : List (List ℕ)} (hf : freshOf system start .number ≡ 0)
     (holds : Holds bytes system start lines rest) (rec : Recording system fall start cs (map wordsOf lines) altered) where
   -- the walk behind it
   abbrev reached : Walk
@@ -233,7 +233,7 @@ module _ {bytes rest : List ℕ} {system fall start altered : ℕ} {cs : List Co
   unfolding judgedNext
   trailing-refused hn some short =
       let f = fresh system start hf in
-      let good : Good reached = record { system = f .a-system; line = line-after-in system start (linesOf system fall start cs) (f .a-line); lines = omega (arith, many); repairs = few (recording-image rec (fresh-may (systemOf system) start fall)) } in
+      let good : Good reached = record { system = f .a-system; line = line-after-in system start (linesOf system fall start cs) (f .a-line); lines = omega (arith, many); repairs = few (recording-image rec (fresh-may (systemOf system) start fall)); tally = field-few (systemOf system) start altered } in
       let stands : walkRefusal reached .number ≡ 0 = same-number (good-accepted reached good) in
       left (omega arith)
       ∙ body-last (goingOn system start reached) rest refl (omega arith) (omega arith)

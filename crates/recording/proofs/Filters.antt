@@ -35,7 +35,7 @@ use Rattle.programme.specs.Extract.{givesRow, extractedOf, rowOfLine}
 use Rattle.programme.specs.Extraction.{extractedRun, extractionOf, stepped, runAfter, rowsGiven, linesIn, extractedProgramme}
 use Rattle.programme.specs.Tape.{begunTape, recordedProgramme}
 use Rattle.programme.proofs.ExtractTheorems.{extract-as-judged}
-use Rattle.recording.specs.Recording.{Recording}
+use Rattle.recording.specs.Recording.{Recording, unaltered}
 use Rattle.recording.specs.Confirmed.{Holds}
 use Rattle.recording.specs.Programme.{Recorded, Extracted, extractAll, Whole}
 use Rattle.recording.specs.Filters.{Recordings, Copies, AllBytes, fileOf, ProgrammeTaken, ProgrammeRecorded, ExtractingConfirms, WrittenCopies, ProgrammeBack}
@@ -179,6 +179,7 @@ programme-taken system start most fall programme z good few =
       sound = b .sound;
       number = b .number;
       repairs = ap (λ (v : Walk). v .repairs) w;
+      tally = ap (λ (v : Walk). v .tally) w;
       lines = omega (arith, ap (λ (v : Walk). v .lines) w);
     })
 
@@ -195,15 +196,15 @@ programme-recorded system start most fall programme z bytes end =
 
 -- ---- and back
 -- a copy of a recording that took rows gives those rows
-copy-rows : {system fall start altered : ℕ} (rows lines copy : List (List ℕ)) (ks : List Packets) (cs : List Content) (file : List ℕ)
+copy-rows : {system fall start : ℕ} {altered : List ℕ} (rows lines copy : List (List ℕ)) (ks : List Packets) (cs : List Content) (file : List ℕ)
     → freshOf system start .number ≡ 0
-    → Recorded fall (freshOf system start .walk) rows ks lines → Recording system fall start cs (map wordsOf lines) 0
+    → Recorded fall (freshOf system start .walk) rows ks lines → Recording system fall start cs (map wordsOf lines) (unaltered cs)
     → Recording system fall start cs (map wordsOf copy) altered → length cs ≤ mostLines → Holds file system start copy []
     → extractedProgramme file ≡ rows
 copy-rows {system} {fall} {start} {altered} rows lines copy ks cs file hf made same damaged few holds =
     let told = rows-back system fall start rows lines ks hf made in
-    let back = ap (λ (x : Extracted). x .rows) (told .3 0 lines (told .1) (told .2)) in
-    let once = ap (λ (x : Extracted). x .rows) (recording-extracted system fall start 0 cs lines hf same few (told .2)) in
+    let back = ap (λ (x : Extracted). x .rows) (told .3 (unaltered (told .0)) lines (told .1) (told .2)) in
+    let once = ap (λ (x : Extracted). x .rows) (recording-extracted system fall start (unaltered cs) cs lines hf same few (told .2)) in
     let again = ap (λ (x : Extracted). x .rows) (recording-extracted system fall start altered cs copy hf damaged few (holds .whole)) in
     file-rows hf holds ∙ again ∙ sym once ∙ back
 

@@ -5,6 +5,7 @@ pub mod PerLine
 pub mod Samples
 pub mod OneResult
 pub mod Confirmed
+pub mod Tallied
 pub mod Promise
 pub mod Rows
 pub mod RecordedLines

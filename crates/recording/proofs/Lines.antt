@@ -21,6 +21,7 @@ use Rattle.system.specs.Walk.{vSeen, MayHave, lineWords, fallenBy, advancedOf, 
 use Rattle.system.specs.Judgement.{acceptedAt, refusedAt}
 use Rattle.system.proofs.Laws.{Good, line-is-parts}
 use Rattle.system.proofs.Falls.{due-seen}
+use Rattle.system.proofs.Tally.{tallyWith}
 use Rattle.line.specs.Fault.{wordRefusal, countsOf}
 use Rattle.line.specs.Samples.{Samples, Packets, Content, lineOf, packetsOf}
 use Rattle.line.specs.Fit.{Measured, Fit}
@@ -32,12 +33,14 @@ use Rattle.reader.specs.Take.{inTurn}
 use Rattle.recording.specs.Play.{Played, andThen, stoppedBy, play}
 use Rattle.recording.proofs.OneLine.{found-seen, flags-seen, accepted-answer, refused-answer, picture-buffers}
 
-abbrev pub at : ℕ → ℕ → ℕ → ℕ → ℕ → Walk
-at system line lines repairs fallen = record { system = system; line = line; lines = lines; repairs = repairs; fallen = fallen }
+abbrev pub at : ℕ → ℕ → ℕ → ℕ → ℕ → ℕ → Walk
+at system line lines repairs fallen tally = record { system = system; line = line; lines = lines; repairs = repairs; fallen = fallen; tally = tally }
 
 -- the walk behind a line of this V with so many altered codes
 abbrev pub behind : Walk → Bool → ℕ → Walk
-behind w v altered = at (w .system) (nextLine (systemOf (w .system)) (w .line)) (w .lines + 1) (w .repairs + altered) (fallenBy v)
+behind w v altered =
+    at (w .system) (nextLine (systemOf (w .system)) (w .line)) (w .lines + 1) (w .repairs + altered) (fallenBy v)
+    (tallyWith (systemOf (w .system)) (w .line) (w .tally) altered)
 
 -- ---- a line in which this is due, as it is read
 module _ (w : Walk) (good : Good w) (b : Samples) (m : Measured b) (d : Due) (ok : Proper (d .fill)) (c : Content) (fits : Fit d c) (read : List ℕ)
@@ -99,7 +102,9 @@ module _ (w : Walk) (good : Good w) (b : Samples) (m : Measured b) (d : Due) (ok
     unfolding advancedOf
     due-walk =
         ap (λ (j : Judgement). j .walk) due-read
-        ∙ ap (λ (x : System). at (w .system) (nextLine x (w .line)) (w .lines + 1) (w .repairs + repairsOf (reportOf d read)) (fallenBy (d .v))) of-system
+        ∙ ap (λ (x : System).
+        at (w .system) (nextLine x (w .line)) (w .lines + 1) (w .repairs + repairsOf (reportOf d read)) (fallenBy (d .v))
+        (tallyWith x (w .line) (w .tally) (repairsOf (reportOf d read)))) of-system
         ∙ ap (behind w (d .v)) counted
 
     -- the samples are returned, where the line carries some

@@ -19,7 +19,7 @@ use Rattle.recording.proofs.ExtractedLines.{extractedAs, extracts-as-pl
 
 -- what is told of lines that were recorded from a fresh walk on
 fresh-told : (system fall start : ℕ) (rows lines : List (List ℕ)) (ks : List Packets) → freshOf system start .number ≡ 0
-    → Recorded fall (freshOf system start .walk) rows ks lines → Told fall (at system start 0 0 0) rows ks lines
+    → Recorded fall (freshOf system start .walk) rows ks lines → Told fall (at system start 0 0 0 0) rows ks lines
 fresh-told system fall start rows lines ks hf made =
     recorded-told (subst (λ (w : Walk). Recorded fall w rows ks lines) (fresh system start hf .walk) made) (omega arith)
 
@@ -31,7 +31,7 @@ rows-recorded system fall start rows lines ks hf made =
 pub recording-extracted : RecordingExtracted
 recording-extracted system fall start altered cs lines hf rec few whole =
     ap (λ (w : Walk). extractAll w lines) (fresh system start hf .walk)
-    ∙ extracts-as-plays lines (at system start 0 0 0) blank blank-measured whole
+    ∙ extracts-as-plays lines (at system start 0 0 0 0) blank blank-measured whole
     ∙ ap (λ (w : Walk). extractedAs (play w blank (map wordsOf lines))) (sym (fresh system start hf .walk))
     ∙ ap extractedAs (recording-reads-back hf rec few blank blank-measured)
 

@@ -12,7 +12,7 @@ pub never-coincide : NeverCoincide
 never-coincide system fall other start k l cs es reads hf one two few fewer = damaged-never-coincide hf one two few fewer
 
 pub two-inverted-stops : TwoInvertedStops
-two-inverted-stops system fall start altered place cs reads c read rest buffers hf m rec few two = two-inverted-refused hf rec few two rest buffers m
+two-inverted-stops system fall start place altered cs reads c read rest buffers hf m rec few two = two-inverted-refused hf rec few two rest buffers m
 
 pub image-reads-back : ImageReadsBack
 image-reads-back system start altered ls reads buffers hf m image few = image-read hf image few buffers m
@@ -27,7 +27,7 @@ pub confirms-image : ConfirmsImage
 confirms-image bytes system start altered ls lines hf holds image few = image-confirmed hf holds image few
 
 pub refuses-two-inverted : RefusesTwoInverted
-refuses-two-inverted bytes rest bad system fall start altered place cs c lines hf holds rec few two =
+refuses-two-inverted bytes rest bad system fall start place altered cs c lines hf holds rec few two =
     two-inverted-not-confirmed lines bad hf holds rec few two
 
 pub confirms-nothing-else : ConfirmsNothingElse

@@ -30,14 +30,14 @@ use Rattle.programme.specs.Record.{takesRow, rowSamples, rowContent, recordRefu
 use Rattle.line.proofs.Places.{part-measured}
 use Rattle.v210.specs.Row.{unpackedOf}
 use Rattle.programme.proofs.RecordTheorems.{record-accepted, recorded-walk}
-use Rattle.recording.specs.Recording.{Recording, end, next, linesOf, picturesOf, packetsIn}
+use Rattle.recording.specs.Recording.{Recording, end, next, unaltered, linesOf, picturesOf, packetsIn}
 use Rattle.recording.specs.Programme.{Recorded, rowOf, Whole, end as no-line, next as one-line}
 use Rattle.recording.proofs.Rows.{row-of-samples}
 
 -- What is told of lines that were recorded of rows and packets, from a walk on.
 pub record Told (fall : ℕ) (w : Walk) (rows : List (List ℕ)) (ks : List Packets) (lines : List (List ℕ)) : Type 0 where
   pub contents : List Content
-  pub recording : Recording (w .system) fall (w .line) contents (map wordsOf lines) 0
+  pub recording : Recording (w .system) fall (w .line) contents (map wordsOf lines) (unaltered contents)
   pub taken : picturesOf (linesOf (w .system) fall (w .line) contents) ≡ map rowSamples rows
   pub carried : packetsIn (linesOf (w .system) fall (w .line) contents) ≡ ks
   pub few : w .lines + length contents ≤ mostLines

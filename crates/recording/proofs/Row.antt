@@ -36,7 +36,7 @@ unfolding flatten
 none system line =
     record { lines = []; all = refl; whole = λ one at. absurd (List·Memᴰ·not-nil at); written = []; images = row.none-left }
 
-joined : {system line k : ℕ} {ls : List Line} {bytes more : List ℕ} (lines : List (List ℕ)) → bytes ≡ flatten lines
+joined : {system line : ℕ} {k : List ℕ} {ls : List Line} {bytes more : List ℕ} (lines : List (List ℕ)) → bytes ≡ flatten lines
     → Whole system lines → Image system line 0 ls (map wordsOf lines) k → Lines system (lineAfterAll system line ls) more
     → Lines system line (bytes ++ more)
 joined {system} {line} {k} {ls} {bytes} {more} lines all whole image rest =
@@ -57,8 +57,8 @@ behind file more z rest =
     let found = confirms-nothing-else file z in
     let lines = found .1 in
     let holds = found .2 in
-    let run = confirms-image file (headerSystem file) (headerStart file) _ (found .3) lines (found .0) holds (found .4) (found .5) in
-    joined lines (holds .behind ∙ append-nil _) (holds .whole) (found .4)
+    let run = confirms-image file (headerSystem file) (headerStart file) (found .4) (found .3) lines (found .0) holds (found .5) (found .6) in
+    joined lines (holds .behind ∙ append-nil _) (holds .whole) (found .5)
     (subst (λ (r : Run). Lines (r .system) (r .walk .line) more) run rest)
 
 -- ---- the whole row

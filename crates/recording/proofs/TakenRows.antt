@@ -12,10 +12,11 @@ use borrow.Author.Tests.{eq-eqb, le-ltb}
 use Rattle.refusal.specs.declared.Refusal.{Refusal}
 use Rattle.refusal.proofs.Cases.{by-test, and-true, not-true}
 use Rattle.refusal.proofs.Firsts.{first-none, same-number}
+use Rattle.timing.specs.Report.{cleanReport}
 use Rattle.system.specs.declared.walk.Walk.{Walk}
 use Rattle.system.specs.Figures.{lineLength, systemOf}
 use Rattle.system.specs.Walk.{mostLines, advancedOf}
-use Rattle.system.proofs.Laws.{Good, good-accepted}
+use Rattle.system.proofs.Laws.{Good, good-accepted, tallied-few}
 use Rattle.system.specs.declared.due.Due.{Due}
 use Rattle.line.specs.Samples.{nothingReady, activeLength, partSamples}
 use Rattle.system.specs.declared.walk.Judgement.{Judgement}
@@ -72,10 +73,11 @@ module _ (system fall room : ℕ) (size : room ≡ 2 * lineLength (systemOf syst
     pub sound : Sound system fall t
     pub number : t .number ≡ 0
     pub repairs : t .walk .repairs ≡ 0
+    pub tally : t .walk .tally ≡ 0
     pub lines : t .walk .lines ≤ bound
 
   weaker : {bound more : ℕ} {t : Tape} → bound ≤ more → Ready bound t → Ready more t
-  weaker l r = record { sound = r .sound; number = r .number; repairs = r .repairs; lines = omega (arith, r .lines) }
+  weaker l r = record { sound = r .sound; number = r .number; repairs = r .repairs; tally = r .tally; lines = omega (arith, r .lines) }
 
   -- ---- one line
   module _ (bound : ℕ) (t : Tape) (row : List ℕ) (r : Ready bound t) (low : bound < mostLines) (given : Given t row) where
@@ -86,6 +88,7 @@ module _ (system fall room : ℕ) (size : room ≡ 2 * lineLength (systemOf syst
           line = r .sound .a-line;
           lines = omega (arith, r .lines);
           repairs = omega (arith, r .repairs);
+          tally = omega (arith, r .tally);
         }
 
     recordable : Recordable (t .fall) (t .walk) row nothingReady room
@@ -113,6 +116,7 @@ module _ (system fall room : ℕ) (size : room ≡ 2 * lineLength (systemOf syst
           sound = still-sound t row room (r .number) accepted system fall (r .sound);
           number = accepted;
           repairs = ap (λ (v : Walk). v .repairs) w ∙ omega (arith, r .repairs);
+          tally = omega (arith, ap (λ (v : Walk). v .tally) w, r .tally, tallied-few (t .walk) (dueAtWalk (t .fall) (t .walk)) cleanReport);
           lines = omega (arith, ap (λ (v : Walk). v .lines) w, r .lines);
         }
 
@@ -124,6 +128,7 @@ module _ (system fall room : ℕ) (size : room ≡ 2 * lineLength (systemOf syst
         sound = sound-there system fall t (r .sound) true;
         number = line-there system fall t (r .sound) true .1 ∙ r .number;
         repairs = ap (λ (v : Walk). v .repairs) w;
+        tally = ap (λ (v : Walk). v .tally) w;
         lines = omega (arith, ap (λ (v : Walk). v .lines) w);
       }
   there bound t r false = r

@@ -17,7 +17,7 @@ use Rattle.system.specs.declared.System.the-variants.{Lines525, Lines625}
 use Rattle.system.specs.declared.walk.Walk.{Walk}
 use Rattle.system.specs.declared.walk.Fresh.{Fresh}
 use Rattle.system.specs.Figures.{lineCount, vOf, isSystem, systemOf, isFall, vWritten, nextLine}
-use Rattle.system.specs.Walk.{isLine, freshOf, advancedOf, lineBytes}
+use Rattle.system.specs.Walk.{isLine, freshWalk, freshOf, advancedOf, lineBytes}
 use Rattle.system.proofs.Laws.{next-line-in, fresh-accepted, between-first, between-last, judgement-number}
 use Rattle.system.proofs.Falls.{picture-written}
 use Rattle.system.specs.Due.{dueWith, dueOf}
@@ -151,10 +151,10 @@ module _ (t : Tape) (row : List ℕ) (room : ℕ) where
 
 -- ---- a next recording, where one begins
 module _ (system fall : ℕ) (t : Tape) (s : Sound system fall t) where
-  fresh-there : freshOf (t .walk .system) (t .walk .line) ≡ record { number = 0; place = 0; walk = record { system = t .walk .system; line = t .walk .line; lines = 0; repairs = 0; fallen = 0 } }
+  fresh-there : freshOf (t .walk .system) (t .walk .line) ≡ record { number = 0; place = 0; walk = freshWalk (t .walk .system) (t .walk .line) }
   fresh-there = fresh-accepted (t .walk .system) (t .walk .line) (s .a-system) (s .a-line)
 
-  pub turned-walk : turnedOf t .walk ≡ record { system = t .walk .system; line = t .walk .line; lines = 0; repairs = 0; fallen = 0 }
+  pub turned-walk : turnedOf t .walk ≡ freshWalk (t .walk .system) (t .walk .line)
   unfolding turnedOf
   turned-walk = ap (λ (f : Fresh). f .walk) fresh-there
 

@@ -19,6 +19,8 @@ use Rattle.system.specs.Walk.{mostLines, isLine, freshOf, MayHave, dueIn, falle
 use Rattle.system.proofs.Laws.{Good, next-line-in, line-is-parts, fresh-accepted, accepted-named}
 use Rattle.system.proofs.Theorems.{fresh-number}
 use Rattle.system.proofs.Falls.{fresh-may, next-may, due-stands}
+use Rattle.system.specs.Tally.{sum}
+use Rattle.system.proofs.Tally.{tallyWith, tally-with-few, tallyFrom, tally-in-turn, field-few}
 use Rattle.system.specs.declared.due.Due.{Due}
 use Rattle.system.specs.Due.{dueWith, dueOf}
 use Rattle.line.specs.Fault.{wordRefusal}
@@ -65,28 +67,30 @@ unfolding dueWith
 line-size s line v c = line-length (dueWith s line v) c
 
 -- an image is read to its end, whatever follows it
-through : {system line fallen altered : ℕ} {ls : List Line} {reads : List (List ℕ)} → Image system line fallen ls reads altered
-    → isSystem system ≡ true → (lines repairs : ℕ) (b : Samples) → Measured b → (rest : List (List ℕ))
-    → isLine system line ≡ true → lines + length ls ≤ mostLines → repairs ≤ 2 * lines
-    → PlaysFrom (at system line lines repairs fallen) (reads ++ rest)
-    (λ left. after ls (play (at system (lineAfterAll system line ls) (lines + length ls) (repairs + altered) (fallenAfter fallen ls)) left rest)) b
-through {system} {line} no-line hs lines repairs b m rest hl hn hr =
+through : {system line fallen : ℕ} {altered : List ℕ} {ls : List Line} {reads : List (List ℕ)} → Image system line fallen ls reads altered
+    → isSystem system ≡ true → (lines repairs tally : ℕ) (b : Samples) → Measured b → (rest : List (List ℕ))
+    → isLine system line ≡ true → lines + length ls ≤ mostLines → repairs ≤ 2 * lines → tally ≤ repairs
+    → PlaysFrom (at system line lines repairs fallen tally) (reads ++ rest)
+    (λ left. after ls (play (at system (lineAfterAll system line ls) (lines + length ls) (repairs + sum altered) (fallenAfter fallen ls) (tallyFrom (systemOf system) line tally altered)) left rest)) b
+unfolding sum
+through {system} {line} no-line hs lines repairs tally b m rest hl hn hr ht =
     let e : lines + 0 ≡ lines = omega arith in
     let f : repairs + 0 ≡ repairs = omega arith in
     (b, m, rw (e, f))
-through {system} (line-more {line = line} {fallen = fallen} {eav = eav} {sav = sav} {altered = altered} {l = l} {read = read} {ls = ls} {reads = reads} room may written dam he hs' more) hs lines repairs b m rest hl hn hr =
-    let w = at system line lines repairs fallen in
-    let good : Good w = record { system = hs; line = hl; lines = omega arith; repairs = hr } in
+through {system} (line-more {line = line} {fallen = fallen} {eav = eav} {sav = sav} {altered = altered} {l = l} {read = read} {ls = ls} {reads = reads} room may written dam he hs' more) hs lines repairs tally b m rest hl hn hr ht =
+    let w = at system line lines repairs fallen tally in
+    let good : Good w = record { system = hs; line = hl; lines = omega arith; repairs = hr; tally = ht } in
     let d = dueWith (systemOf system) line (l .v) in
     let fits = due-fits d (l .content) room written .1 in
     let size = length (lineOf d (l .content)) in
     let whole = line-size (systemOf system) line (l .v) (l .content) in
     let low : size ≤ lineLength (systemOf system) = omega arith in
     let accepted = line-accepted w good b m (l .v) may (l .content) fits read eav sav size low dam whole he hs' in
-    let rest-of = through more hs (lines + 1) (repairs + (eav + sav)) (inTurn w read b .buffers) (buffers-measured w b read accepted m) rest
-    (next-line-in system line hl) (omega arith) (omega arith) in
+    let next-tally = tallyWith (systemOf system) line tally (eav + sav) in
+    let rest-of = through more hs (lines + 1) (repairs + (eav + sav)) next-tally (inTurn w read b .buffers) (buffers-measured w b read accepted m) rest
+    (next-line-in system line hl) (omega arith) (omega arith) (omega (arith, tally-with-few (systemOf system) line tally (eav + sav))) in
     let e : lines + 1 + length ls ≡ lines + suc (length ls) = omega arith in
-    let f : repairs + (eav + sav) + altered ≡ repairs + (eav + sav + altered) = omega arith in (
+    let f : repairs + (eav + sav) + sum altered ≡ repairs + (eav + sav + sum altered) = omega arith in (
       rest-of .0,
       rest-of .1,
       plays-on w good b m (l .v) may (l .content) fits read eav sav size low dam whole he hs' (reads ++ rest)
@@ -99,7 +103,7 @@ through {system} (line-more {line = line} {fallen = fallen} {eav = eav} {sav = s
 pub record Fresh (system start : ℕ) : Type 0 where
   pub a-system : isSystem system ≡ true
   pub a-line : isLine system start ≡ true
-  pub walk : freshOf system start .walk ≡ at system start 0 0 0
+  pub walk : freshOf system start .walk ≡ at system start 0 0 0 0
 
 pub fresh : (system start : ℕ) → freshOf system start .number ≡ 0 → Fresh system start
 fresh system start e =
@@ -111,7 +115,9 @@ pub line-after-in : (system line : ℕ) (ls : List Line) → isLine system line 
 line-after-in system line [] h = h
 line-after-in system line (l ∷ ls) h = line-after-in system (nextLine (systemOf system) line) ls (next-line-in system line h)
 
-pub few : {system line fallen altered : ℕ} {ls : List Line} {reads : List (List ℕ)} → Image system line fallen ls reads altered → altered ≤ 2 * length ls
+pub few : {system line fallen : ℕ} {altered : List ℕ} {ls : List Line} {reads : List (List ℕ)} → Image system line fallen ls reads altered
+    → sum altered ≤ 2 * length ls
+unfolding sum
 few no-line = omega arith
 few (line-more room may written dam he hs more) = omega (arith, few more)
 
@@ -136,7 +142,7 @@ fitting-line : (s : System) (line : ℕ) (v : Bool) (c : Content) → Fit (dueWi
 unfolding dueWith
 fitting-line s line v c fits = fitting-due (dueWith s line v) c (lineLength s) refl fits
 
-pub recording-image : {system fall line fallen altered : ℕ} {cs : List Content} {reads : List (List ℕ)} → Recording system fall line cs reads altered
+pub recording-image : {system fall line fallen : ℕ} {altered : List ℕ} {cs : List Content} {reads : List (List ℕ)} → Recording system fall line cs reads altered
     → Falls system fall line fallen → Image system line fallen (linesOf system fall line cs) reads altered
 unfolding dueOf
 recording-image end falls = no-line
@@ -176,27 +182,27 @@ blank-measured = taken-measured (dueWith (systemOf 0) 0 false) []
 
 -- A, of lines each written with a V that is due: read to their end, every written sample of every line with V = 0 is returned, and repairs are
 -- exactly the altered codes.
-pub image-read : {system start altered : ℕ} {ls : List Line} {reads : List (List ℕ)} → freshOf system start .number ≡ 0
+pub image-read : {system start : ℕ} {altered : List ℕ} {ls : List Line} {reads : List (List ℕ)} → freshOf system start .number ≡ 0
     → Image system start 0 ls reads altered → length ls ≤ mostLines → (buffers : Samples) → Measured buffers
     → play (freshOf system start .walk) buffers reads ≡ playedThrough system start ls altered
 unfolding play
 image-read {system} {start} {altered} {ls} {reads} hf image hn b m =
     let f = fresh system start hf in
-    let t = through image (f .a-system) 0 0 b m [] (f .a-line) (omega arith) (omega arith) in
+    let t = through image (f .a-system) 0 0 0 b m [] (f .a-line) (omega arith) (omega arith) (omega arith) in
     let e : 0 + length ls ≡ length ls = omega arith in
-    let g : 0 + altered ≡ altered = omega arith in
-    ap (λ (w : Walk). play w b reads) (f .walk) ∙ ap (play (at system start 0 0 0) b) (sym (append-nil reads)) ∙ t .2
-    ∙ rw (e, g, append-nil (vsOf ls), append-nil (picturesOf ls), append-nil (packetsIn ls))
+    let g : 0 + sum altered ≡ sum altered = omega arith in
+    ap (λ (w : Walk). play w b reads) (f .walk) ∙ ap (play (at system start 0 0 0 0) b) (sym (append-nil reads)) ∙ t .2
+    ∙ rw (e, g, tally-in-turn system start altered (f .a-line), append-nil (vsOf ls), append-nil (picturesOf ls), append-nil (packetsIn ls))
 
 -- A. A recording of at most 10,000,000 lines, each code altered in at most one bit, is read to its end.
-pub recording-reads-back : {system fall start altered : ℕ} {cs : List Content} {reads : List (List ℕ)} → freshOf system start .number ≡ 0
+pub recording-reads-back : {system fall start : ℕ} {altered : List ℕ} {cs : List Content} {reads : List (List ℕ)} → freshOf system start .number ≡ 0
     → Recording system fall start cs reads altered → length cs ≤ mostLines → (buffers : Samples) → Measured buffers
     → play (freshOf system start .walk) buffers reads ≡ playedThrough system start (linesOf system fall start cs) altered
 recording-reads-back {system} {fall} {start} {cs = cs} hf rec hn b m =
     image-read hf (recording-image rec (fresh-may (systemOf system) start fall)) (omega (arith, as-many system fall start cs)) b m
 
 -- B. Recordings of different samples, damaged so, never coincide: from the same lines read, the same V and the same samples were written.
-pub damaged-never-coincide : {system fall other start k l : ℕ} {cs es : List Content} {reads : List (List ℕ)} → freshOf system start .number ≡ 0
+pub damaged-never-coincide : {system fall other start : ℕ} {k l : List ℕ} {cs es : List Content} {reads : List (List ℕ)} → freshOf system start .number ≡ 0
     → Recording system fall start cs reads k → Recording system other start es reads l → length cs ≤ mostLines → length es ≤ mostLines
     → (vsOf (linesOf system fall start cs) ≡ vsOf (linesOf system other start es))
     × (picturesOf (linesOf system fall start cs) ≡ picturesOf (linesOf system other start es))
@@ -207,7 +213,7 @@ damaged-never-coincide hf one two hp hq =
 
 -- C. Where a code has exactly two of the seven bits inverted and no earlier code more than one, the lines before are returned and that code
 -- is refused with 8 in its place; the walk stands, whatever follows.
-pub two-inverted-refused : {system fall start altered place : ℕ} {cs : List Content} {reads : List (List ℕ)} {c : Content} {read : List ℕ}
+pub two-inverted-refused : {system fall start place : ℕ} {altered : List ℕ} {cs : List Content} {reads : List (List ℕ)} {c : Content} {read : List ℕ}
     → freshOf system start .number ≡ 0 → Recording system fall start cs reads altered → length cs < mostLines
     → TwoInverted system fall (lineAfterAll system start (linesOf system fall start cs)) c read place
     → (rest : List (List ℕ)) (buffers : Samples) → Measured buffers
@@ -220,19 +226,19 @@ pub two-inverted-refused : {system fall start altered place : ℕ} {cs : List Co
       place = place;
       walk = walkBehind system start (linesOf system fall start cs) altered;
     }
-two-inverted-refused {system} {fall} {start} {altered} {place} {cs} {reads} {c} {read} hf rec hn two rest b m =
+two-inverted-refused {system} {fall} {start} {place} {altered} {cs} {reads} {c} {read} hf rec hn two rest b m =
     let f = fresh system start hf in
     let ls = linesOf system fall start cs in
     let many = as-many system fall start cs in
     let falls = fresh-may (systemOf system) start fall in
     let image = recording-image rec falls in
-    let t = through image (f .a-system) 0 0 b m (read ∷ rest) (f .a-line) (omega arith) (omega arith) in
+    let t = through image (f .a-system) 0 0 0 b m (read ∷ rest) (f .a-line) (omega arith) (omega arith) (omega arith) in
     let e : 0 + length ls ≡ length ls = omega arith in
-    let g : 0 + altered ≡ altered = omega arith in
+    let g : 0 + sum altered ≡ sum altered = omega arith in
     let good : Good (walkBehind system start ls altered) =
-    record { system = f .a-system; line = line-after-in system start ls (f .a-line); lines = omega arith; repairs = few image } in
+    record { system = f .a-system; line = line-after-in system start ls (f .a-line); lines = omega arith; repairs = few image; tally = field-few (systemOf system) start altered } in
     ap (λ (w : Walk). play w b (reads ++ (read ∷ rest))) (f .walk) ∙ t .2
-    ∙ rw (e, g)
+    ∙ rw (e, g, tally-in-turn system start altered (f .a-line))
     (ap (after ls) (stops _ (t .0) read place (two-inverted-line-refused good (t .0) (t .1) (falls-behind system fall start 0 cs falls) two) rest)
     ∙ rw (append-nil (vsOf ls), append-nil (picturesOf ls), append-nil (packetsIn ls)))
 
@@ -284,9 +290,9 @@ goes-on w b read rest z =
 
 -- lines that are read through from a walk on are an image
 is-image : (w : Walk) (reads : List (List ℕ)) (b : Samples) → Measured b → w .lines ≤ mostLines → play w b reads .number ≡ 0
-    → (ls : List Line) × (k : ℕ) × Image (w .system) (w .line) (w .fallen) ls reads k × (w .lines + length ls ≤ mostLines)
+    → (ls : List Line) × (k : List ℕ) × Image (w .system) (w .line) (w .fallen) ls reads k × (w .lines + length ls ≤ mostLines)
 unfolding play
-is-image w [] b m few z = ([], 0, no-line, omega arith)
+is-image w [] b m few z = ([], [], no-line, omega arith)
 is-image w (read ∷ rest) b m few z =
     let answered = goes-on w b read rest z in
     let accepted = answered-accepted w b read answered in
@@ -305,7 +311,7 @@ is-image w (read ∷ rest) b m few z =
     let i = is-image (behind w v (e + s)) rest (inTurn w read b .buffers)
     (buffers-measured w b read answered m) (omega (arith, accepted .good .lines)) (ap (λ (r : Played). r .number) (sym q) ∙ z) in (
       record { v = v; content = c } ∷ i .0,
-      e + s + i .1,
+      (e + s) ∷ i .1,
       line-more (length read) may (writable w read accepted) struck he hs (i .2),
       omega (arith, i .3),
     )
@@ -313,10 +319,10 @@ is-image w (read ∷ rest) b m few z =
 -- D. Nothing else is ever confirmed: lines that are read through are such an image of the lines returned, of at most 10,000,000.
 pub read-through-is-image : (system start : ℕ) → freshOf system start .number ≡ 0 → (reads : List (List ℕ)) (buffers : Samples)
     → Measured buffers → play (freshOf system start .walk) buffers reads .number ≡ 0
-    → (ls : List Line) × (altered : ℕ) × Image system start 0 ls reads altered × (length ls ≤ mostLines)
+    → (ls : List Line) × (altered : List ℕ) × Image system start 0 ls reads altered × (length ls ≤ mostLines)
     × (play (freshOf system start .walk) buffers reads ≡ playedThrough system start ls altered)
 read-through-is-image system start hf reads b m z =
     let f = fresh system start hf in
-    let i = is-image (at system start 0 0 0) reads b m (omega arith) (ap (λ (w : Walk). play w b reads .number) (sym (f .walk)) ∙ z) in
+    let i = is-image (at system start 0 0 0 0) reads b m (omega arith) (ap (λ (w : Walk). play w b reads .number) (sym (f .walk)) ∙ z) in
     let few : length (i .0) ≤ mostLines = omega (arith, i .3) in
     (i .0, i .1, i .2, few, image-read hf (i .2) few b m)

@@ -16,7 +16,7 @@ use Rattle.confirmation.specs.Run.{begunOf, confirmedOf}
 use Rattle.programme.specs.Record.{rowSamples}
 use Rattle.programme.specs.Tape.{recordedProgramme}
 use Rattle.programme.specs.Extraction.{linesIn, runAfter, extractedProgramme}
-use Rattle.recording.specs.Recording.{Recording}
+use Rattle.recording.specs.Recording.{Recording, unaltered}
 use Rattle.recording.specs.Confirmed.{Holds}
 use Rattle.recording.specs.Programme.{Recorded}
 
@@ -72,8 +72,8 @@ ExtractingConfirms = (bytes : List ℕ) → runAfter (begunOf bytes) (linesIn by
 -- Files that are, in turn, copies of recordings: each of the same samples, damaged in at most one bit of each code.
 pub data Copies (system fall : ℕ) : List (ℕ × List (List ℕ)) → List (List ℕ) → Type 0 where
   none : Copies system fall [] []
-  one : {start altered : ℕ} {lines copy : List (List ℕ)} {more : List (ℕ × List (List ℕ))} {files : List (List ℕ)} (cs : List Content) (file : List ℕ)
-      → Recording system fall start cs (map wordsOf lines) 0
+  one : {start : ℕ} {altered : List ℕ} {lines copy : List (List ℕ)} {more : List (ℕ × List (List ℕ))} {files : List (List ℕ)} (cs : List Content) (file : List ℕ)
+      → Recording system fall start cs (map wordsOf lines) (unaltered cs)
       → Recording system fall start cs (map wordsOf copy) altered
       → length cs ≤ mostLines
       → Holds file system start copy []

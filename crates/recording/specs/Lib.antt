@@ -3,6 +3,7 @@ pub mod Play
 pub mod Marked
 pub mod Confirmed
 pub mod Promise
+pub mod Tallied
 pub mod Programme
 pub mod Row
 pub mod Filters

@@ -16,7 +16,7 @@ use Rattle.words.specs.Bytes.{wordsOf}
 use Rattle.v210.specs.Row.{rowLength, packedOf}
 use Rattle.programme.specs.Record.{takesRow, rowSamples, recordedOf, lineBytesAfter}
 use Rattle.programme.specs.Extract.{extractedOf, givesRow, rowOfLine}
-use Rattle.recording.specs.Recording.{Recording, linesOf, picturesOf, packetsIn}
+use Rattle.recording.specs.Recording.{Recording, unaltered, linesOf, picturesOf, packetsIn}
 use Rattle.recording.specs.Promise.{walkBehind}
 
 -- Lines in turn from a walk on, with one fall line, each what an accepted call of `record` leaves in a buffer. Told are the rows that were taken, the packets of
@@ -79,14 +79,14 @@ abbrev pub RowsRecorded : Type 0
 RowsRecorded =
     (system fall start : ℕ) (rows lines : List (List ℕ)) (ks : List Packets) → freshOf system start .number ≡ 0
     → Recorded fall (freshOf system start .walk) rows ks lines
-    → (cs : List Content) × Recording system fall start cs (map wordsOf lines) 0 × (picturesOf (linesOf system fall start cs) ≡ map rowSamples rows)
+    → (cs : List Content) × Recording system fall start cs (map wordsOf lines) (unaltered cs) × (picturesOf (linesOf system fall start cs) ≡ map rowSamples rows)
     × (packetsIn (linesOf system fall start cs) ≡ ks) × (length cs ≤ mostLines) × Whole system lines
 
 -- Extracting a recording, damaged in at most one bit of each code, gives the row of every V = 0 line and the packets of every line
 -- (`recording-extracted`).
 abbrev pub RecordingExtracted : Type 0
 RecordingExtracted =
-    (system fall start altered : ℕ) (cs : List Content) (lines : List (List ℕ)) → freshOf system start .number ≡ 0
+    (system fall start : ℕ) (altered : List ℕ) (cs : List Content) (lines : List (List ℕ)) → freshOf system start .number ≡ 0
     → Recording system fall start cs (map wordsOf lines) altered → length cs ≤ mostLines → Whole system lines
     → _≡_ {A = Extracted} (extractAll (freshOf system start .walk) lines)
     (record {
@@ -103,7 +103,7 @@ abbrev pub RowsBack : Type 0
 RowsBack =
     (system fall start : ℕ) (rows lines : List (List ℕ)) (ks : List Packets) → freshOf system start .number ≡ 0
     → Recorded fall (freshOf system start .walk) rows ks lines
-    → (cs : List Content) × Recording system fall start cs (map wordsOf lines) 0 × Whole system lines
-    × ((altered : ℕ) (copy : List (List ℕ)) → Recording system fall start cs (map wordsOf copy) altered → Whole system copy
+    → (cs : List Content) × Recording system fall start cs (map wordsOf lines) (unaltered cs) × Whole system lines
+    × ((altered : List ℕ) (copy : List (List ℕ)) → Recording system fall start cs (map wordsOf copy) altered → Whole system copy
     → _≡_ {A = Extracted} (extractAll (freshOf system start .walk) copy)
     (record { rows = rows; packets = ks; number = 0; place = 0; walk = walkBehind system start (linesOf system fall start cs) altered }))

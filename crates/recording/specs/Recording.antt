@@ -15,14 +15,18 @@ use Rattle.writer.specs.Write.{dueRefusal, writeRefusal, lineAfter}
 
 -- Lines in turn from a line number on, with one fall line. Each is what the writer's call leaves in a buffer for samples and packets that it
 -- accepts, read with at most one of the seven bits of each code inverted and low bits at will, the packets undamaged. Told are what the lines
--- carry, the lines as read, and the altered codes.
-pub data Recording (system fall : ℕ) : ℕ → List Content → List (List ℕ) → ℕ → Type 0 where
-  end : {line : ℕ} → Recording system fall line [] [] 0
-  next : {line eav sav altered : ℕ} {c : Content} {read : List ℕ} {cs : List Content} {reads : List (List ℕ)} (buffer : List ℕ)
+-- carry, the lines as read, and how many codes of each are altered.
+pub data Recording (system fall : ℕ) : ℕ → List Content → List (List ℕ) → List ℕ → Type 0 where
+  end : {line : ℕ} → Recording system fall line [] [] []
+  next : {line eav sav : ℕ} {altered : List ℕ} {c : Content} {read : List ℕ} {cs : List Content} {reads : List (List ℕ)} (buffer : List ℕ)
       → writeRefusal system line fall c (length buffer) .number ≡ 0
       → Damaged (dueOf (systemOf system) line fall) (lineAfter system line fall c buffer) read eav sav
       → eav ≤ 1 → sav ≤ 1 → Recording system fall (nextLine (systemOf system) line) cs reads altered
-      → Recording system fall line (c ∷ cs) (read ∷ reads) (eav + sav + altered)
+      → Recording system fall line (c ∷ cs) (read ∷ reads) ((eav + sav) ∷ altered)
+
+-- no code of any line altered
+abbrev pub unaltered : List Content → List ℕ
+unaltered cs = map (λ (c : Content). 0) cs
 
 -- a line that is written: its V, and what it carries
 pub record Line : Type 0 where
@@ -60,14 +64,14 @@ fallenAfter fallen (l ∷ ls) = fallenAfter (fallenBy (l .v)) ls
 
 -- Lines in turn from a line number and a record on, each written with a V that is due there: V of a field may fall where it will. Each is the line
 -- in which that is due, for samples and packets that are accepted for it, read as above; told are the lines, and the same as of a recording.
-pub data Image (system : ℕ) : ℕ → ℕ → List Line → List (List ℕ) → ℕ → Type 0 where
-  no-line : {line fallen : ℕ} → Image system line fallen [] [] 0
-  line-more : {line fallen eav sav altered : ℕ} {l : Line} {read : List ℕ} {ls : List Line} {reads : List (List ℕ)} (room : ℕ)
+pub data Image (system : ℕ) : ℕ → ℕ → List Line → List (List ℕ) → List ℕ → Type 0 where
+  no-line : {line fallen : ℕ} → Image system line fallen [] [] []
+  line-more : {line fallen eav sav : ℕ} {altered : List ℕ} {l : Line} {read : List ℕ} {ls : List Line} {reads : List (List ℕ)} (room : ℕ)
       → MayHave (systemOf system) line fallen (l .v)
       → dueRefusal (dueWith (systemOf system) line (l .v)) (l .content) room .number ≡ 0
       → Damaged (dueWith (systemOf system) line (l .v)) (lineOf (dueWith (systemOf system) line (l .v)) (l .content)) read eav sav
       → eav ≤ 1 → sav ≤ 1 → Image system (nextLine (systemOf system) line) (fallenBy (l .v)) ls reads altered
-      → Image system line fallen (l ∷ ls) (read ∷ reads) (eav + sav + altered)
+      → Image system line fallen (l ∷ ls) (read ∷ reads) ((eav + sav) ∷ altered)
 
 -- what is to be told of a fourth word that is read where these F, V, H were written, as one number: 0, or the bit that differs, 2 to 8
 abbrev pub invertedBit : ℕ → ℕ → ℕ

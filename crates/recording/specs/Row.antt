@@ -30,7 +30,7 @@ behindHeaders files = flatten (map (drop headerLength) files)
 -- A recording follows on another where it starts with the line behind that one's last (`recording-follows`).
 abbrev pub RecordingFollows : Type 0
 RecordingFollows =
-    (first second : List ℕ) (system fall start altered : ℕ) (cs : List Content) (lines : List (List ℕ)) → freshOf system start .number ≡ 0
+    (first second : List ℕ) (system fall start : ℕ) (altered : List ℕ) (cs : List Content) (lines : List (List ℕ)) → freshOf system start .number ≡ 0
     → Holds first system start lines [] → Recording system fall start cs (map wordsOf lines) altered → length cs ≤ mostLines
     → headerSystem second ≡ system → headerStart second ≡ lineAfterAll system start (linesOf system fall start cs)
     → followsOn (confirmedOf first) (begunOf second) ≡ true
@@ -38,7 +38,7 @@ RecordingFollows =
 -- So recordings that were written one behind the other, each with its own fall line, are a row, of any number of files (`recordings-in-row`).
 abbrev pub RecordingsInRow : Type 0
 RecordingsInRow =
-    (first second : List ℕ) (rest : List (List ℕ)) (system fall other start altered later : ℕ) (cs es : List Content) (lines more : List (List ℕ))
+    (first second : List ℕ) (rest : List (List ℕ)) (system fall other start : ℕ) (altered later : List ℕ) (cs es : List Content) (lines more : List (List ℕ))
     → freshOf system start .number ≡ 0
     → Holds first system start lines [] → Recording system fall start cs (map wordsOf lines) altered → length cs ≤ mostLines
     → freshOf system (lineAfterAll system start (linesOf system fall start cs)) .number ≡ 0
@@ -51,7 +51,7 @@ RecordingsInRow =
 -- lines, and all as read.
 pub data Successive (system : ℕ) : ℕ → List Line → List (List ℕ) → Type 0 where
   none-left : {line : ℕ} → Successive system line [] []
-  image-then : {line altered : ℕ} {ls more : List Line} {reads others : List (List ℕ)}
+  image-then : {line : ℕ} {altered : List ℕ} {ls more : List Line} {reads others : List (List ℕ)}
       → Image system line 0 ls reads altered
       → Successive system (lineAfterAll system line ls) more others
       → Successive system line (ls ++ more) (reads ++ others)

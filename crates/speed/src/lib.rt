@@ -15,7 +15,7 @@ use system::Walk;
 pub extern "C" fn speed_judge(system: u32, line: u32, words: &[u16]) -> u32
     ensures { λ r. ⌜ r ≡ judgedOf (freshWalk system line) (now (words .entry)) .number ⌝ }
 {
-    let walk = Walk::of(system, line, 0, 0, 0);
+    let walk = Walk::of(system, line, 0, 0, 0, 0);
     reader::judge(walk, words).number
 }
 
@@ -33,7 +33,7 @@ pub extern "C" fn speed_take(
     ensures cbs { λ r. ⌜ now (cb .exit) ≡ takenOf (freshWalk system line) (now (words .entry)) (record { y = now (y .entry); cb = now (cb .entry); cr = now (cr .entry) }) .cb ⌝ }
     ensures crs { λ r. ⌜ now (cr .exit) ≡ takenOf (freshWalk system line) (now (words .entry)) (record { y = now (y .entry); cb = now (cb .entry); cr = now (cr .entry) }) .cr ⌝ }
 {
-    let walk = Walk::of(system, line, 0, 0, 0);
+    let walk = Walk::of(system, line, 0, 0, 0, 0);
     reader::take(walk, words, y, cb, cr).number
 }
 
@@ -52,7 +52,7 @@ pub extern "C" fn speed_in_turn(
     ensures cbs { λ r. ⌜ now (cb .exit) ≡ inTurn (freshWalk system line) (now (words .entry)) (record { y = now (y .entry); cb = now (cb .entry); cr = now (cr .entry) }) .buffers .cb ⌝ }
     ensures crs { λ r. ⌜ now (cr .exit) ≡ inTurn (freshWalk system line) (now (words .entry)) (record { y = now (y .entry); cb = now (cb .entry); cr = now (cr .entry) }) .buffers .cr ⌝ }
 {
-    let walk = Walk::of(system, line, 0, 0, 0);
+    let walk = Walk::of(system, line, 0, 0, 0, 0);
     let judgement = reader::judge(walk, words);
     if judgement.number != 0 {
         return judgement.number;

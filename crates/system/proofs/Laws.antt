@@ -20,9 +20,9 @@ use Rattle.system.specs.declared.due.Due.{Due}
 use Rattle.system.specs.declared.walk.Walk.{Walk}
 use Rattle.system.specs.declared.walk.PacketWords.{PacketWords}
 use Rattle.system.specs.declared.walk.Judgement.{Judgement}
-use Rattle.system.specs.Figures.{lineLength, savOffset, activeOffset, lineCount, between, isSystem, systemOf, isFall, nextLine}
+use Rattle.system.specs.Figures.{lineLength, savOffset, activeOffset, lineCount, between, isSystem, systemOf, isFall, nextLine, turnsField}
 use Rattle.system.specs.Due.{dueWith, flag, flagsOf}
-use Rattle.system.specs.Walk.{mostLines, isLine, namedRefusal, writtenRefusal, walkRefusal, freshWalk, freshOf, standingRefusal, dueBy, advancedOf, movedOf}
+use Rattle.system.specs.Walk.{mostLines, isLine, namedRefusal, writtenRefusal, walkRefusal, freshWalk, freshOf, standingRefusal, dueBy, talliedOf, advancedOf, movedOf}
 use Rattle.system.specs.Judgement.{refusedAt, acceptedAt, judgementOf}
 
 -- ---- the figures fit each other, and are in range
@@ -137,6 +137,7 @@ pub record Good (w : Walk) : Type 0 where
   pub line : isLine (w .system) (w .line) ≡ true
   pub lines : w .lines < mostLines
   pub repairs : w .repairs ≤ 2 * w .lines
+  pub tally : w .tally ≤ w .repairs
 
 module _ (w : Walk) where
   pub walk-named : (namedRefusal (w .system) (w .line) .number ≡ 0 → ⊥) → walkRefusal w ≡ namedRefusal (w .system) (w .line)
@@ -152,12 +153,17 @@ module _ (w : Walk) where
     unfolding walkRefusal
     walk-many-repairs l m = orElse-accepted _ _ named ∙ simp (lt-leb _ _ l, lt-ltb _ _ m)
 
-    pub walk-few : w .lines < mostLines → w .repairs ≤ 2 * w .lines → walkRefusal w ≡ none
-    unfolding walkRefusal
-    walk-few l m = orElse-accepted _ _ named ∙ simp (lt-leb _ _ l, le-ltb _ _ m)
+    module _ (l : w .lines < mostLines) (m : w .repairs ≤ 2 * w .lines) where
+      pub walk-high-tally : w .repairs < w .tally → walkRefusal w ≡ record { number = badCounts; place = 0 }
+      unfolding walkRefusal
+      walk-high-tally t = orElse-accepted _ _ named ∙ simp (lt-leb _ _ l, le-ltb _ _ m, lt-ltb _ _ t)
+
+      pub walk-few : w .tally ≤ w .repairs → walkRefusal w ≡ none
+      unfolding walkRefusal
+      walk-few t = orElse-accepted _ _ named ∙ simp (lt-leb _ _ l, le-ltb _ _ m, le-ltb _ _ t)
 
   pub good-accepted : Good w → walkRefusal w ≡ none
-  good-accepted g = walk-few (same-number (named-accepted (w .system) (w .line) (g .system) (g .line))) (g .lines) (g .repairs)
+  good-accepted g = walk-few (same-number (named-accepted (w .system) (w .line) (g .system) (g .line))) (g .lines) (g .repairs) (g .tally)
 
   -- and the other way round
   pub accepted-good : walkRefusal w .number ≡ 0 → Good w
@@ -165,13 +171,18 @@ module _ (w : Walk) where
   accepted-good e =
       let both = orElse-none (namedRefusal (w .system) (w .line)) _ e in
       let named = accepted-named (w .system) (w .line) (both .0) in
-      let few = or-neither (leb mostLines (w .lines)) (ltb (2 * w .lines) (w .repairs)) (not-made _ badCounts 0 (λ z. omega arith) (both .1)) in
-      record { system = named .a-system; line = named .a-line; lines = leb-false _ _ (few .0); repairs = ltb-false _ _ (few .1) }
+      let few = or-neither (leb mostLines (w .lines)) _ (not-made _ badCounts 0 (λ z. omega arith) (both .1)) in
+      let low = or-neither (ltb (2 * w .lines) (w .repairs)) (ltb (w .repairs) (w .tally)) (few .1) in
+      record { system = named .a-system; line = named .a-line; lines = leb-false _ _ (few .0); repairs = ltb-false _ _ (low .0); tally = ltb-false _ _ (low .1) }
 
   -- what is due at it is of its system
   pub due-system : (fourth : ℕ) → dueBy w fourth .system ≡ systemOf (w .system)
   unfolding dueBy dueWith
   due-system fourth = refl
+
+  -- the tally grows by no more than a line's repairs
+  pub tallied-few : (d : Due) (report : Report) → talliedOf w d report ≤ w .tally + repairsOf report
+  tallied-few d report = by-test (turnsField (d .system) (w .line)) (λ t. simp t (omega arith)) (λ f. simp f (omega arith))
 
   -- with room for one more its counts do not wrap
   pub moved-advanced : (d : Due) (report : Report) → Good w → movedOf w d report ≡ advancedOf w d report
@@ -180,7 +191,8 @@ module _ (w : Walk) where
       let two = at-most-two report in
       let lines : (w .lines + 1) % 2 ^ 32 ≡ w .lines + 1 = omega (arith, g .lines) in
       let repairs : (w .repairs + repairsOf report) % 2 ^ 32 ≡ w .repairs + repairsOf report = omega (arith, g .lines, g .repairs, two) in
-      rw (lines, repairs)
+      let tally : talliedOf w d report % 2 ^ 32 ≡ talliedOf w d report = omega (arith, g .lines, g .repairs, g .tally, two, tallied-few d report) in
+      rw (lines, repairs, tally)
 
   -- ---- before the words are looked at
   module _ (given due : ℕ) where

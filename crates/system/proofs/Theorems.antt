@@ -55,12 +55,16 @@ line-none number line (inl low) = simp (lt-leb _ _ low)
 line-none number line (inr high) =
     by-test (leb 1 line) (λ l. simp (l, lt-leb _ _ high)) (λ l. simp l)
 
-bad-counts : (w : Walk) → (leb mostLines (w .lines) || ltb (2 * w .lines) (w .repairs)) ≡ true → BadCounts w
-bad-counts w e = ⊎-elim (λ a. inl (leb-true _ _ a)) (λ b. inr (ltb-true _ _ b)) (or-either (leb mostLines (w .lines)) _ e)
+bad-counts : (w : Walk) → (leb mostLines (w .lines) || (ltb (2 * w .lines) (w .repairs) || ltb (w .repairs) (w .tally))) ≡ true → BadCounts w
+bad-counts w e =
+    ⊎-elim (λ a. inl (leb-true _ _ a))
+    (λ b. inr (⊎-elim (λ m. inl (ltb-true _ _ m)) (λ t. inr (ltb-true _ _ t)) (or-either (ltb (2 * w .lines) (w .repairs)) _ b)))
+    (or-either (leb mostLines (w .lines)) _ e)
 
-counts-bad : (w : Walk) → BadCounts w → (leb mostLines (w .lines) || ltb (2 * w .lines) (w .repairs)) ≡ true
+counts-bad : (w : Walk) → BadCounts w → (leb mostLines (w .lines) || (ltb (2 * w .lines) (w .repairs) || ltb (w .repairs) (w .tally))) ≡ true
 counts-bad w (inl a) = or-left _ _ (le-leb _ _ a)
-counts-bad w (inr b) = or-right (leb mostLines (w .lines)) _ (lt-ltb _ _ b)
+counts-bad w (inr (inl b)) = or-right (leb mostLines (w .lines)) _ (or-left _ _ (lt-ltb _ _ b))
+counts-bad w (inr (inr t)) = or-right (leb mostLines (w .lines)) _ (or-right (ltb (2 * w .lines) (w .repairs)) _ (lt-ltb _ _ t))
 
 -- the refusals as the definitions list them
 module _ (number line : ℕ) where
@@ -115,7 +119,7 @@ module _ (w : Walk) where
       let system = systemRefusal (w .system) in
       let line = numberRefusal (w .system) (w .line) in
       subst (Keeps (walkRefusals w))
-      (orElse-grouped system line _ ∙ ap (λ (r : Refusal). orElse (orElse system r) (countRefusal (w .lines) (w .repairs))) (sym (alone _ line (keeps-line (w .system) (w .line)))))
+      (orElse-grouped system line _ ∙ ap (λ (r : Refusal). orElse (orElse system r) (countRefusal w)) (sym (alone _ line (keeps-line (w .system) (w .line)))))
       (keeps-before _ _ system _ (keeps-system (w .system) (w .line))
       (keeps-before _ _ line _ (keeps-line (w .system) (w .line))
       (keeps-when _ (BadCounts w) badCounts 0 (bad-counts w) (counts-bad w) (λ z. omega arith))))
@@ -146,7 +150,7 @@ fresh-refusal number start =
 
 -- "its refusal returns a walk all zero"
 pub fresh-refused-zero : (number start : ℕ) → (freshOf number start .number ≡ 0 → ⊥)
-    → freshOf number start .walk ≡ record { system = 0; line = 0; lines = 0; repairs = 0; fallen = 0 }
+    → freshOf number start .walk ≡ record { system = 0; line = 0; lines = 0; repairs = 0; fallen = 0; tally = 0 }
 unfolding freshOf
 fresh-refused-zero number start refused =
     by-test (eqb (namedRefusal number start .number) 0)

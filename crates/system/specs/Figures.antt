@@ -1,6 +1,6 @@
 -- Document 01, "Numbers and layout": the figures of each system, and F and V of a line.
-use Prim.Native.Nat.{ℕ, _+_}
-use mathlib.Core.Bool.{Bool, true, false, cond, _&&_, _||_}
+use Prim.Native.Nat.{ℕ, _+_, _-_}
+use mathlib.Core.Bool.{Bool, true, false, cond, xor, _&&_, _||_}
 use lib.Dec.{ltb, leb, eqb}
 use Rattle.system.specs.declared.System.{System}
 use Rattle.system.specs.declared.System.the-variants.{Lines525, Lines625}
@@ -66,6 +66,14 @@ fOf Lines625 n = between 313 625 n
 -- "After the last line comes line 1."
 unfoldable pub nextLine : System → ℕ → ℕ
 nextLine s n = cond (ltb n (lineCount s)) (n + 1) 1
+
+-- so before line 1 comes the last line
+abbrev pub lineBefore : System → ℕ → ℕ
+lineBefore s n = cond (eqb n 1) (lineCount s) (n - 1)
+
+-- Document 02, L9, "whose F differs from the accepted line before it": that is the line with the number before, so F of the two numbers decides
+unfoldable pub turnsField : System → ℕ → Bool
+turnsField s n = between 1 (lineCount s) n && xor (fOf s n) (fOf s (lineBefore s n))
 
 -- "system is neither 525 nor 625"
 unfoldable pub isSystem : ℕ → Bool

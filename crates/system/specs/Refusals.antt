@@ -17,9 +17,9 @@ NoSystem number = (number ≡ systemNumber Lines525 → ⊥) × (number ≡ syst
 abbrev pub NoLine : ℕ → ℕ → Type 0
 NoLine number line = (line < 1) ⊎ (lineCount (systemOf number) < line)
 
--- "lines read is 10,000,000 or more, or repairs exceed twice lines read"
+-- "lines read is 10,000,000 or more, or repairs exceed twice lines read", or the tally exceeds the repairs
 abbrev pub BadCounts : Walk → Type 0
-BadCounts w = (mostLines ≤ w .lines) ⊎ (2 * w .lines < w .repairs)
+BadCounts w = (mostLines ≤ w .lines) ⊎ ((2 * w .lines < w .repairs) ⊎ (w .repairs < w .tally))
 
 -- "A fresh walk: 1, 2", and so every call that is given the numbers of a system and of a line
 abbrev pub namedRefusals : ℕ → ℕ → Row

@@ -1,4 +1,4 @@
--- Document 01, "The walk", and document 02, L1: its record of V, and which V is due.
+-- Document 01, "The walk", and document 02: L1, its record of V, and which V is due; L9, its tally.
 use Prim.Native.Nat.{ℕ, _+_, _*_, _%_, _^_}
 use mathlib.Core.Bool.{Bool, true, false, cond, not, _&&_, _||_}
 use mathlib.Core.Path.{_≡_}
@@ -17,7 +17,7 @@ use Rattle.system.specs.declared.System.{System}
 use Rattle.system.specs.declared.due.Due.{Due}
 use Rattle.system.specs.declared.walk.Walk.{Walk}
 use Rattle.system.specs.declared.walk.Fresh.{Fresh}
-use Rattle.system.specs.Figures.{between, lineLength, lineCount, isSystem, systemOf, nextLine, vOf, mayFall, looksBack, isFall}
+use Rattle.system.specs.Figures.{between, lineLength, lineCount, isSystem, systemOf, nextLine, turnsField, vOf, mayFall, looksBack, isFall}
 use Rattle.system.specs.Due.{dueWith}
 
 -- "at most 10,000,000 lines"
@@ -49,17 +49,18 @@ unfoldable pub writtenRefusal : ℕ → ℕ → ℕ → Refusal
 unfolding namedRefusal
 writtenRefusal number line fall = orElse (namedRefusal number line) (fallRefusal number fall)
 
--- "lines read is 10,000,000 or more, or repairs exceed twice lines read"
-abbrev pub countRefusal : ℕ → ℕ → Refusal
-countRefusal lines repairs = refuse (leb mostLines lines || ltb (2 * lines) repairs) badCounts 0
+-- "lines read is 10,000,000 or more, or repairs exceed twice lines read", and "a walk whose tally exceeds its repairs is refusal 4"
+abbrev pub countRefusal : Walk → Refusal
+countRefusal w =
+    refuse (leb mostLines (w .lines) || (ltb (2 * w .lines) (w .repairs) || ltb (w .repairs) (w .tally))) badCounts 0
 
 -- what refuses every line at a walk: "1, 2, 4"
 unfoldable pub walkRefusal : Walk → Refusal
-walkRefusal w = orElse (namedRefusal (w .system) (w .line)) (countRefusal (w .lines) (w .repairs))
+walkRefusal w = orElse (namedRefusal (w .system) (w .line)) (countRefusal w)
 
 -- "A fresh walk has zero counts", and its record of V "says no".
 abbrev pub freshWalk : ℕ → ℕ → Walk
-freshWalk number start = record { system = number; line = start; lines = 0; repairs = 0; fallen = 0 }
+freshWalk number start = record { system = number; line = start; lines = 0; repairs = 0; fallen = 0; tally = 0 }
 
 -- "A fresh walk: 1, 2; its refusal returns a walk all zero"
 unfoldable pub freshOf : ℕ → ℕ → Fresh
@@ -112,8 +113,12 @@ dueIn w words = dueBy w (getD words 3 0)
 abbrev pub fallenBy : Bool → ℕ
 fallenBy v = cond v 0 1
 
--- "An accepted line advances the line number, adds 1 to lines read and 0 to 2 to repairs", and is recorded: told are what was due in it and
--- its report
+-- Document 02, L9: the tally with the repairs of an accepted line; "since the latest accepted line whose F differs ..., that line included"
+abbrev pub talliedOf : Walk → Due → Report → ℕ
+talliedOf w d report = cond (turnsField (d .system) (w .line)) 0 (w .tally) + repairsOf report
+
+-- "An accepted line advances the line number, adds 1 to lines read and 0 to 2 to repairs", and is recorded and tallied: told are what was
+-- due in it and its report
 unfoldable pub advancedOf : Walk → Due → Report → Walk
 advancedOf w d report =
     record {
@@ -122,6 +127,7 @@ advancedOf w d report =
       lines = w .lines + 1;
       repairs = w .repairs + repairsOf report;
       fallen = fallenBy (d .v);
+      tally = talliedOf w d report;
     }
 
 -- the same with counts of 32 bits, for every walk
@@ -133,4 +139,5 @@ movedOf w d report =
       lines = (w .lines + 1) % 2 ^ 32;
       repairs = (w .repairs + repairsOf report) % 2 ^ 32;
       fallen = fallenBy (d .v);
+      tally = talliedOf w d report % 2 ^ 32;
     }

@@ -12,7 +12,7 @@ pub use walk::fresh_walk;
 pub use walk::repairs;
 ghost use mathlib.Core.Path.{_≡_};
 ghost use Rattle.system.specs.declared.System.the-variants.{Lines525, Lines625};
-ghost use Rattle.system.specs.Figures.{between, isSystem, systemOf, lineLength, savOffset, activeOffset, lineCount, vOf, mayFall, looksBack, isFall, vWritten, fOf, nextLine};
+ghost use Rattle.system.specs.Figures.{between, isSystem, systemOf, lineLength, savOffset, activeOffset, lineCount, vOf, mayFall, looksBack, isFall, vWritten, fOf, nextLine, turnsField};
 ghost use Rattle.system.specs.Walk.{namedRefusal, writtenRefusal, freshOf};
 use refusal::Number;
 use refusal::Refusal;
@@ -96,6 +96,16 @@ impl System525 {
         within(1, 3, line)
     }
 
+    // Whether F of a line differs from that of the line before: on lines 4 and 266.
+    fn turns_field(line: u32) -> bool
+        ensures { λ r. ⌜ r ≡ turnsField Lines525 line ⌝ }
+    {
+        if line == 4 {
+            return true;
+        }
+        line == 266
+    }
+
     // A fresh walk from a line of this system, or 2 and a walk all zero.
     pub fn fresh_walk(start: u32) -> Fresh
         ensures { λ r. ⌜ r ≡ freshOf 525 start ⌝ }
@@ -134,6 +144,16 @@ impl System625 {
         ensures { λ r. ⌜ r ≡ fOf Lines625 line ⌝ }
     {
         within(313, 625, line)
+    }
+
+    // Whether F of a line differs from that of the line before: on lines 1 and 313.
+    fn turns_field(line: u32) -> bool
+        ensures { λ r. ⌜ r ≡ turnsField Lines625 line ⌝ }
+    {
+        if line == 1 {
+            return true;
+        }
+        line == 313
     }
 
     // A fresh walk from a line of this system, or 2 and a walk all zero.
@@ -255,6 +275,16 @@ impl System {
             return line + 1;
         }
         1
+    }
+
+    // Whether F of a line differs from that of the line before.
+    pub(crate) fn turns_field(self, line: u32) -> bool
+        ensures { λ r. ⌜ r ≡ turnsField self line ⌝ }
+    {
+        match self {
+            System::Lines525 => System525::turns_field(line),
+            System::Lines625 => System625::turns_field(line),
+        }
     }
 }
 

@@ -1,10 +1,10 @@
 // The walk over consecutive lines: what it holds, what it refuses, what is due at it, and where it moves; and the answer to a line.
 ghost use mathlib.Core.Path.{_≡_};
-ghost use Prim.Native.Nat.{_*_, _≤_};
+ghost use Prim.Native.Nat.{_*_, _%_, _^_, _≤_};
 ghost use Rattle.timing.specs.Report.{repairsIn, repairsOf};
 ghost use Rattle.system.specs.declared.System.the-variants.{Lines625};
 ghost use Rattle.system.specs.Figures.{lineLength};
-ghost use Rattle.system.specs.Walk.{walkRefusal, standingRefusal, freshOf, vSeen, hasFallen, vDue, dueBy, lineWords, lineBytes, fallenBy, movedOf};
+ghost use Rattle.system.specs.Walk.{walkRefusal, standingRefusal, freshOf, vSeen, hasFallen, vDue, dueBy, lineWords, lineBytes, fallenBy, talliedOf, movedOf};
 ghost use Rattle.system.specs.Judgement.{refusedAt, movedAt};
 use crate::Due;
 use crate::System;
@@ -18,14 +18,15 @@ use timing::Correction;
 use timing::Report;
 use timing::correct;
 
-// Where a reader of consecutive lines stands: the system's number, the awaited line, what was counted so far, and whether V was 0 in the last
-// accepted line, 0 for no, else yes.
+// Where a reader of consecutive lines stands: the system's number, the awaited line, what was counted so far, whether V was 0 in the last
+// accepted line, 0 for no, else yes, and how many of the repairs are of this field.
 pub struct Walk {
     pub system: u32,
     pub line: u32,
     pub lines: u32,
     pub repairs: u32,
     pub fallen: u32,
+    pub tally: u32,
 }
 
 // The answer to a fresh walk: a refusal returns a walk all zero.
@@ -44,13 +45,13 @@ pub fn fresh_walk(system: u32, start: u32) -> Fresh
         return Fresh {
             number: refusal.number,
             place: 0,
-            walk: Walk::of(0, 0, 0, 0, 0),
+            walk: Walk::of(0, 0, 0, 0, 0, 0),
         };
     }
     Fresh {
         number: 0,
         place: 0,
-        walk: Walk::of(system, start, 0, 0, 0),
+        walk: Walk::of(system, start, 0, 0, 0, 0),
     }
 }
 
@@ -120,8 +121,8 @@ impl Walk {
     pub const MOST_LINES: u32 = 10_000_000;
 
     // The walk that holds these numbers.
-    pub fn of(system: u32, line: u32, lines: u32, repairs: u32, fallen: u32) -> Walk
-        ensures { λ r. ⌜ r ≡ record { system = system; line = line; lines = lines; repairs = repairs; fallen = fallen } ⌝ }
+    pub fn of(system: u32, line: u32, lines: u32, repairs: u32, fallen: u32, tally: u32) -> Walk
+        ensures { λ r. ⌜ r ≡ record { system = system; line = line; lines = lines; repairs = repairs; fallen = fallen; tally = tally } ⌝ }
     {
         Walk {
             system,
@@ -129,6 +130,7 @@ impl Walk {
             lines,
             repairs,
             fallen,
+            tally,
         }
     }
 
@@ -148,6 +150,9 @@ impl Walk {
             return bad_counts;
         }
         if 2 * self.lines < self.repairs {
+            return bad_counts;
+        }
+        if self.repairs < self.tally {
             return bad_counts;
         }
         Refusal::NONE
@@ -194,6 +199,18 @@ impl Walk {
         Due::with(system, self.line, v)
     }
 
+    // The tally with the repairs of an accepted line: anew where F differs from that of the line before.
+    fn tallied(self, due: Due, report: Report) -> u32
+        ensures { λ r. ⌜ r ≡ talliedOf self due report % 2 ^ 32 ⌝ }
+    {
+        let count = repairs(report);
+        let system = due.system;
+        if system.turns_field(self.line) {
+            return count;
+        }
+        wrapping_add_u32(self.tally, count)
+    }
+
     // The walk after an accepted line in which this was due, with this report. Counts are of 32 bits: a walk that refuses no line has room.
     pub fn moved(self, due: Due, report: Report) -> Walk
         ensures { λ r. ⌜ r ≡ movedOf self due report ⌝ }
@@ -207,6 +224,7 @@ impl Walk {
             wrapping_add_u32(self.lines, 1),
             wrapping_add_u32(self.repairs, count),
             fallen_by(due.v),
+            self.tallied(due, report),
         )
     }
 }

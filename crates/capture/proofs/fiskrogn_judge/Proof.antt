@@ -37,7 +37,7 @@ module _ (w : Walk) (bytes : List ℕ) (j : Judgement) (is : j ≡ judgedBytes w
 abbrev walk-of : tie.After-judge → Walk
 walk-of c =
     let a = c .before .before .before .args in
-    record { system = a .system; line = a .line; lines = a .lines-read; repairs = a .repairs; fallen = a .fallen }
+    record { system = a .system; line = a .line; lines = a .lines-read; repairs = a .repairs; fallen = a .fallen; tally = a .tally }
 
 abbrev bytes-of : tie.After-judge → List ℕ
 bytes-of c = now (c .before .before .before .args .bytes)

@@ -1,4 +1,4 @@
--- `system::Walk::moved` meets its contract: the counts by their wrapping sums, and the record. Assumes nothing.
+-- `system::Walk::moved` meets its contract: the counts by their wrapping sums, the record and the tally. Assumes nothing.
 use borrow.Author.Needs.{needs}
 use mathlib.Core.Path.{_∙_}
 use Rattle.system.specs.Walk.{movedOf}
@@ -20,18 +20,22 @@ wrapping-add-u32-requires-2 c κs = search needs
 fallen-by-requires : tie.Need-fallen-by-requires
 fallen-by-requires c κs = search needs
 
+tallied-requires : tie.Need-tallied-requires
+tallied-requires c κs = search needs
+
 of-requires : tie.Need-of-requires
 of-requires c κs = search needs
 
 returns : tie.Need-returns
 unfolding movedOf
 returns c =
-    let v = c .before in
+    let t = c .before in
+    let v = t .before in
     let b = v .before in
     let a = b .before in
     let r = a .before in
     let n = r .before in
-    c .of .ensures ∙ rw (v .fallen-by .ensures, b .wrapping-add-u322 .ensures, a .wrapping-add-u32 .ensures, r .repairs .ensures, n .next-line .ensures)
+    c .of .ensures ∙ rw (t .tallied .ensures, v .fallen-by .ensures, b .wrapping-add-u322 .ensures, a .wrapping-add-u32 .ensures, r .repairs .ensures, n .next-line .ensures)
 
 pub moved-spec : {M : Type 1} → statement M
 moved-spec =
@@ -42,5 +46,6 @@ moved-spec =
     wrapping-add-u32-requires
     wrapping-add-u32-requires-2
     fallen-by-requires
+    tallied-requires
     of-requires
     returns)

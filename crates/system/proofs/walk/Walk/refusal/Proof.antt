@@ -2,7 +2,7 @@
 use borrow.Author.Needs.{needs}
 use mathlib.Core.Path.{sym, _∙_}
 use Rattle.refusal.proofs.Firsts.{same-number}
-use Rattle.system.proofs.Laws.{walk-named, walk-many-lines, walk-many-repairs, walk-few}
+use Rattle.system.proofs.Laws.{walk-named, walk-many-lines, walk-many-repairs, walk-high-tally, walk-few}
 use Rattle.system.proofs.walk.Walk.refusal.Statement.{statement}
 use Rattle.system.proofs.walk.Walk.refusal.Tie as tie
 
@@ -30,10 +30,18 @@ returns-3 c =
 
 returns-4 : tie.Need-returns-4
 returns-4 c =
-    let f = c .before .before .before in
+    let g = c .before .before in
+    let f = g .before .before .before in
     let e = f .before .before in
-    sym (walk-few _ (sym (same-number (e .before .before .named-refusal .ensures)) ∙ e .if1 .left) (f .if2 .left) (c .if3 .left))
+    sym (walk-high-tally _ (sym (same-number (e .before .before .named-refusal .ensures)) ∙ e .if1 .left) (f .if2 .left) (g .if3 .left) (c .if4 .taken))
+
+returns-5 : tie.Need-returns-5
+returns-5 c =
+    let g = c .before .before in
+    let f = g .before .before .before in
+    let e = f .before .before in
+    sym (walk-few _ (sym (same-number (e .before .before .named-refusal .ensures)) ∙ e .if1 .left) (f .if2 .left) (g .if3 .left) (c .if4 .left))
 
 pub refusal-spec : {M : Type 1} → statement M
 refusal-spec =
-    tie.close (tie.spec named-refusal-requires returns returns-2 mul-if3 returns-3 returns-4)
+    tie.close (tie.spec named-refusal-requires returns returns-2 mul-if3 returns-3 returns-4 returns-5)
