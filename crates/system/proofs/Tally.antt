@@ -13,11 +13,11 @@ use Rattle.timing.specs.Report.{repairsOf}
 use Rattle.system.specs.declared.System.{System}
 use Rattle.system.specs.declared.walk.Walk.{Walk}
 use Rattle.system.specs.declared.walk.Fresh.{Fresh}
-use Rattle.system.specs.Figures.{lineCount, between, systemOf, fOf, nextLine, lineBefore, turnsField}
+use Rattle.system.specs.Figures.{lineCount, between, isSystem, systemOf, fOf, nextLine, lineBefore, turnsField}
 use Rattle.system.specs.Due.{dueWith}
 use Rattle.system.specs.Walk.{isLine, freshWalk, freshOf, advancedOf}
-use Rattle.system.specs.Tally.{Passed, sum, repairsOn, fAt, differsAt, latest, fieldRepairs, passedFrom, Reached, begun, then, Tallied, ReachedTallied}
-use Rattle.system.proofs.Laws.{between-first, between-last, accepted-named, fresh-named, next-line-in, at-most-two, tallied-few}
+use Rattle.system.specs.Tally.{Passed, sum, repairsOn, fAt, differsAt, latest, fieldRepairs, passedFrom, Reached, begun, then, SentenceSamples, Tallied, ReachedTallied, ReachedStands}
+use Rattle.system.proofs.Laws.{between-first, between-last, accepted-named, fresh-named, next-line-in, good-accepted, at-most-two, tallied-few}
 use Rattle.system.proofs.Theorems.{fresh-number}
 
 pub sum-append : (a b : List ℕ) → sum (a ++ b) ≡ sum a + sum b
@@ -56,6 +56,10 @@ unfolding fieldRepairs
 field-few s line ks =
     let h = passedFrom s line ks in
     omega (arith, drop-few (latest (differsAt s h) (length h)) h, ap sum (counts s line ks))
+
+pub sentence-samples : SentenceSamples
+unfolding fieldRepairs latest differsAt sum passedFrom nextLine fOf xor
+sentence-samples = (refl, refl, refl)
 
 -- ---- a history and a line more
 module _ (s : System) (h : List Passed) (p : Passed) where
@@ -246,3 +250,16 @@ known system start z (then {h = h} {w = w} v report reached stands) =
 
 pub reached-tallied : ReachedTallied
 reached-tallied system start h w z reached = known system start z reached .tallied
+
+pub reached-stands : ReachedStands
+reached-stands system start h w z reached room =
+    let k = known system start z reached in
+    let named = accepted-named system start (sym (fresh-number system start) ∙ z) in
+    good-accepted w
+    (record {
+      system = ap isSystem (k .is-system) ∙ named .a-system;
+      line = ap (λ (n : ℕ). isLine n (w .line)) (k .is-system) ∙ k .a-line;
+      lines = room;
+      repairs = k .tallied .repairs;
+      tally = k .tallied .tally;
+    })
