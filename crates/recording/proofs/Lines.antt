@@ -17,11 +17,10 @@ use Rattle.system.specs.declared.walk.Walk.{Walk}
 use Rattle.system.specs.declared.walk.Judgement.{Judgement}
 use Rattle.system.specs.Figures.{lineLength, savOffset, systemOf, nextLine}
 use Rattle.system.specs.Due.{dueWith, flagsOf}
-use Rattle.system.specs.Walk.{vSeen, MayHave, lineWords, fallenBy, advancedOf, dueIn}
+use Rattle.system.specs.Walk.{vSeen, MayHave, lineWords, fallenBy, tallyWith, advancedOf, dueIn}
 use Rattle.system.specs.Judgement.{acceptedAt, refusedAt}
 use Rattle.system.proofs.Laws.{Good, line-is-parts}
 use Rattle.system.proofs.Falls.{due-seen}
-use Rattle.system.proofs.Tally.{tallyWith}
 use Rattle.line.specs.Fault.{wordRefusal, countsOf}
 use Rattle.line.specs.Samples.{Samples, Packets, Content, lineOf, packetsOf}
 use Rattle.line.specs.Fit.{Measured, Fit}

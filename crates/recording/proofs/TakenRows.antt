@@ -12,11 +12,10 @@ use borrow.Author.Tests.{eq-eqb, le-ltb}
 use Rattle.refusal.specs.declared.Refusal.{Refusal}
 use Rattle.refusal.proofs.Cases.{by-test, and-true, not-true}
 use Rattle.refusal.proofs.Firsts.{first-none, same-number}
-use Rattle.timing.specs.Report.{cleanReport}
 use Rattle.system.specs.declared.walk.Walk.{Walk}
 use Rattle.system.specs.Figures.{lineLength, systemOf}
 use Rattle.system.specs.Walk.{mostLines, advancedOf}
-use Rattle.system.proofs.Laws.{Good, good-accepted, tallied-few}
+use Rattle.system.proofs.Laws.{tally-with-few, Good, good-accepted}
 use Rattle.system.specs.declared.due.Due.{Due}
 use Rattle.line.specs.Samples.{nothingReady, activeLength, partSamples}
 use Rattle.system.specs.declared.walk.Judgement.{Judgement}
@@ -116,7 +115,7 @@ module _ (system fall room : ℕ) (size : room ≡ 2 * lineLength (systemOf syst
           sound = still-sound t row room (r .number) accepted system fall (r .sound);
           number = accepted;
           repairs = ap (λ (v : Walk). v .repairs) w ∙ omega (arith, r .repairs);
-          tally = omega (arith, ap (λ (v : Walk). v .tally) w, r .tally, tallied-few (t .walk) (dueAtWalk (t .fall) (t .walk)) cleanReport);
+          tally = omega (arith, ap (λ (v : Walk). v .tally) w, r .tally, tally-with-few (dueAtWalk (t .fall) (t .walk) .system) (t .walk .line) (t .walk .tally) 0);
           lines = omega (arith, ap (λ (v : Walk). v .lines) w, r .lines);
         }
 

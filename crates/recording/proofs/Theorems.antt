@@ -15,12 +15,12 @@ use Rattle.timing.proofs.Laws.{one-repair}
 use Rattle.system.specs.declared.System.{System}
 use Rattle.system.specs.declared.walk.Walk.{Walk}
 use Rattle.system.specs.Figures.{lineLength, savOffset, activeOffset, isSystem, systemOf, isFall, vWritten, nextLine}
-use Rattle.system.specs.Walk.{mostLines, isLine, freshOf, MayHave, dueIn, fallenBy}
-use Rattle.system.proofs.Laws.{Good, next-line-in, line-is-parts, fresh-accepted, accepted-named}
+use Rattle.system.specs.Walk.{mostLines, isLine, freshOf, MayHave, dueIn, fallenBy, tallyWith}
+use Rattle.system.proofs.Laws.{tally-with-few, Good, next-line-in, line-is-parts, fresh-accepted, accepted-named}
 use Rattle.system.proofs.Theorems.{fresh-number}
 use Rattle.system.proofs.Falls.{fresh-may, next-may, due-stands}
 use Rattle.system.specs.Tally.{sum}
-use Rattle.system.proofs.Tally.{tallyWith, tally-with-few, tallyFrom, tally-in-turn, field-few}
+use Rattle.system.proofs.Tally.{tallyFrom, tally-in-turn, field-few}
 use Rattle.system.specs.declared.due.Due.{Due}
 use Rattle.system.specs.Due.{dueWith, dueOf}
 use Rattle.line.specs.Fault.{wordRefusal}

@@ -22,7 +22,7 @@ use Rattle.system.specs.declared.walk.PacketWords.{PacketWords}
 use Rattle.system.specs.declared.walk.Judgement.{Judgement}
 use Rattle.system.specs.Figures.{lineLength, savOffset, activeOffset, lineCount, between, isSystem, systemOf, isFall, nextLine, turnsField}
 use Rattle.system.specs.Due.{dueWith, flag, flagsOf}
-use Rattle.system.specs.Walk.{mostLines, isLine, namedRefusal, writtenRefusal, walkRefusal, freshWalk, freshOf, standingRefusal, dueBy, talliedOf, advancedOf, movedOf}
+use Rattle.system.specs.Walk.{mostLines, isLine, namedRefusal, writtenRefusal, walkRefusal, freshWalk, freshOf, standingRefusal, dueBy, tallyWith, advancedOf, movedOf}
 use Rattle.system.specs.Judgement.{refusedAt, acceptedAt, judgementOf}
 
 -- ---- the figures fit each other, and are in range
@@ -72,6 +72,10 @@ at-most-one (Repaired bit) = omega arith
 
 pub at-most-two : (r : Report) → repairsOf r ≤ 2
 at-most-two r = omega (arith, at-most-one (r .eav), at-most-one (r .sav))
+
+-- ---- the tally grows by no more than a line's repairs
+pub tally-with-few : (s : System) (line tally repairs : ℕ) → tallyWith s line tally repairs ≤ tally + repairs
+tally-with-few s line tally repairs = by-test (turnsField s line) (λ t. simp t (omega arith)) (λ f. simp f (omega arith))
 
 -- ---- the numbers of a system and of a line, and a fresh walk
 module _ (number line : ℕ) where
@@ -180,10 +184,6 @@ module _ (w : Walk) where
   unfolding dueBy dueWith
   due-system fourth = refl
 
-  -- the tally grows by no more than a line's repairs
-  pub tallied-few : (d : Due) (report : Report) → talliedOf w d report ≤ w .tally + repairsOf report
-  tallied-few d report = by-test (turnsField (d .system) (w .line)) (λ t. simp t (omega arith)) (λ f. simp f (omega arith))
-
   -- with room for one more its counts do not wrap
   pub moved-advanced : (d : Due) (report : Report) → Good w → movedOf w d report ≡ advancedOf w d report
   unfolding movedOf advancedOf
@@ -191,7 +191,9 @@ module _ (w : Walk) where
       let two = at-most-two report in
       let lines : (w .lines + 1) % 2 ^ 32 ≡ w .lines + 1 = omega (arith, g .lines) in
       let repairs : (w .repairs + repairsOf report) % 2 ^ 32 ≡ w .repairs + repairsOf report = omega (arith, g .lines, g .repairs, two) in
-      let tally : talliedOf w d report % 2 ^ 32 ≡ talliedOf w d report = omega (arith, g .lines, g .repairs, g .tally, two, tallied-few d report) in
+      let next = tallyWith (d .system) (w .line) (w .tally) (repairsOf report) in
+      let few = tally-with-few (d .system) (w .line) (w .tally) (repairsOf report) in
+      let tally : next % 2 ^ 32 ≡ next = omega (arith, g .lines, g .repairs, g .tally, two, few) in
       rw (lines, repairs, tally)
 
   -- ---- before the words are looked at

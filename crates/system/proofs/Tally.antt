@@ -15,12 +15,12 @@ use Rattle.system.specs.declared.walk.Walk.{Walk}
 use Rattle.system.specs.declared.walk.Fresh.{Fresh}
 use Rattle.system.specs.Figures.{lineCount, between, isSystem, systemOf, fOf, nextLine, lineBefore, turnsField}
 use Rattle.system.specs.Due.{dueWith}
-use Rattle.system.specs.Walk.{isLine, freshWalk, freshOf, advancedOf}
+use Rattle.system.specs.Walk.{isLine, freshWalk, freshOf, tallyWith, advancedOf}
 use Rattle.system.specs.Tally.{Passed, sum, repairsOn, fAt, differsAt, latest, fieldRepairs, passedFrom, Reached, begun, then, SentenceSamples, Tallied, ReachedTallied, ReachedStands}
-use Rattle.system.proofs.Laws.{between-first, between-last, accepted-named, fresh-named, next-line-in, good-accepted, at-most-two, tallied-few}
+use Rattle.system.proofs.Laws.{between-first, between-last, accepted-named, fresh-named, next-line-in, good-accepted, at-most-two, tally-with-few}
 use Rattle.system.proofs.Theorems.{fresh-number}
 
-pub sum-append : (a b : List ℕ) → sum (a ++ b) ≡ sum a + sum b
+sum-append : (a b : List ℕ) → sum (a ++ b) ≡ sum a + sum b
 unfolding sum
 sum-append [] b = omega arith
 sum-append (n ∷ ns) b = omega (arith, sum-append ns b)
@@ -124,16 +124,8 @@ module _ (s : System) (h : List Passed) (p : Passed) where
       simp f (ap (λ (n : ℕ). repairsOn (drop n more)) before ∙ from-before (latest (differsAt s h) (length h)) (latest-low (differsAt s h) (length h))))
 
 -- ---- the line that follows a history: the last line's number is the one before it
-abbrev pub Follows : System → List Passed → ℕ → Type 0
+abbrev Follows : System → List Passed → ℕ → Type 0
 Follows s h line = (place : ℕ) → length h ≡ suc place → lineBefore s line ≡ getD (map numberOf h) place 0
-
--- what the walk makes of a tally, by the line's number
-abbrev pub tallyWith : System → ℕ → ℕ → ℕ → ℕ
-tallyWith s line tally repairs = cond (turnsField s line) 0 tally + repairs
-
-pub tally-with-few : (s : System) (line tally repairs : ℕ) → tallyWith s line tally repairs ≤ tally + repairs
-tally-with-few s line tally repairs =
-    by-test (turnsField s line) (λ t. simp t (omega arith)) (λ f. simp f (omega arith))
 
 -- of a line of the system F of the two numbers decides
 differs-there : (s : System) (line : ℕ) → between 1 (lineCount s) line ≡ true → turnsField s line ≡ xor (fOf s line) (fOf s (lineBefore s line))
@@ -154,7 +146,7 @@ field-turns s (q ∷ rest) line repairs in-range follows =
     field-more s h p ∙ ap (λ (t : Bool). cond t 0 (fieldRepairs s h) + repairs) turns
 
 -- the line behind a line of the system has that before it
-pub before-next : (s : System) (line : ℕ) → 1 ≤ line → line ≤ lineCount s → lineBefore s (nextLine s line) ≡ line
+before-next : (s : System) (line : ℕ) → 1 ≤ line → line ≤ lineCount s → lineBefore s (nextLine s line) ≡ line
 unfolding nextLine
 before-next s line low high =
     by-test (ltb line (lineCount s))
@@ -243,7 +235,7 @@ known system start z (then {h = h} {w = w} v report reached stands) =
                 ap (λ (n : ℕ). tallyWith (systemOf n) (w .line) (w .tally) (repairsOf report)) (k .is-system)
                 ∙ ap (λ (t : ℕ). tallyWith (systemOf system) (w .line) t (repairsOf report)) (before .told)
                 ∙ sym (field-turns (systemOf system) h (w .line) (repairsOf report) (in-range system (w .line) (k .a-line)) (k .follows));
-            tally = omega (arith, before .tally, tallied-few w d report);
+            tally = omega (arith, before .tally, tally-with-few (systemOf (w .system)) (w .line) (w .tally) (repairsOf report));
             repairs = omega (arith, before .repairs, at-most-two report);
           };
     }

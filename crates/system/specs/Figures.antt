@@ -71,7 +71,8 @@ nextLine s n = cond (ltb n (lineCount s)) (n + 1) 1
 abbrev pub lineBefore : System → ℕ → ℕ
 lineBefore s n = cond (eqb n 1) (lineCount s) (n - 1)
 
--- Document 02, L9, "whose F differs from the accepted line before it": that is the line with the number before, so F of the two numbers decides
+-- Document 02, L9, "whose F differs from the accepted line before it": that is the line with the number before, so F of the two numbers decides,
+-- of a line of the system
 unfoldable pub turnsField : System → ℕ → Bool
 turnsField s n = between 1 (lineCount s) n && xor (fOf s n) (fOf s (lineBefore s n))
 

@@ -114,8 +114,8 @@ abbrev pub fallenBy : Bool → ℕ
 fallenBy v = cond v 0 1
 
 -- Document 02, L9: the tally with the repairs of an accepted line; "since the latest accepted line whose F differs ..., that line included"
-abbrev pub talliedOf : Walk → Due → Report → ℕ
-talliedOf w d report = cond (turnsField (d .system) (w .line)) 0 (w .tally) + repairsOf report
+abbrev pub tallyWith : System → ℕ → ℕ → ℕ → ℕ
+tallyWith s line tally repairs = cond (turnsField s line) 0 tally + repairs
 
 -- "An accepted line advances the line number, adds 1 to lines read and 0 to 2 to repairs", and is recorded and tallied: told are what was
 -- due in it and its report
@@ -127,7 +127,7 @@ advancedOf w d report =
       lines = w .lines + 1;
       repairs = w .repairs + repairsOf report;
       fallen = fallenBy (d .v);
-      tally = talliedOf w d report;
+      tally = tallyWith (d .system) (w .line) (w .tally) (repairsOf report);
     }
 
 -- the same with counts of 32 bits, for every walk
@@ -139,5 +139,5 @@ movedOf w d report =
       lines = (w .lines + 1) % 2 ^ 32;
       repairs = (w .repairs + repairsOf report) % 2 ^ 32;
       fallen = fallenBy (d .v);
-      tally = talliedOf w d report % 2 ^ 32;
+      tally = tallyWith (d .system) (w .line) (w .tally) (repairsOf report) % 2 ^ 32;
     }

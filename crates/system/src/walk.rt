@@ -4,7 +4,7 @@ ghost use Prim.Native.Nat.{_*_, _%_, _^_, _≤_};
 ghost use Rattle.timing.specs.Report.{repairsIn, repairsOf};
 ghost use Rattle.system.specs.declared.System.the-variants.{Lines625};
 ghost use Rattle.system.specs.Figures.{lineLength};
-ghost use Rattle.system.specs.Walk.{walkRefusal, standingRefusal, freshOf, vSeen, hasFallen, vDue, dueBy, lineWords, lineBytes, fallenBy, talliedOf, movedOf};
+ghost use Rattle.system.specs.Walk.{walkRefusal, standingRefusal, freshOf, vSeen, hasFallen, vDue, dueBy, lineWords, lineBytes, fallenBy, tallyWith, movedOf};
 ghost use Rattle.system.specs.Judgement.{refusedAt, movedAt};
 use crate::Due;
 use crate::System;
@@ -201,7 +201,7 @@ impl Walk {
 
     // The tally with the repairs of an accepted line: anew where F differs from that of the line before.
     fn tallied(self, due: Due, report: Report) -> u32
-        ensures { λ r. ⌜ r ≡ talliedOf self due report % 2 ^ 32 ⌝ }
+        ensures { λ r. ⌜ r ≡ tallyWith (due .system) (self .line) (self .tally) (repairsOf report) % 2 ^ 32 ⌝ }
     {
         let count = repairs(report);
         let system = due.system;
