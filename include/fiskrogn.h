@@ -3,8 +3,8 @@
  *
  * Each call answers one 32-bit number. An answer of 65,536 or more is a refusal: its number times 65,536 plus its place. In a few words:
  * 1 the system, 2 the line number, 3 the byte count, 4 the walk's counts, 5 a word over 1023, 6 one of the first three words of a timing
- * code, 7 bit 9 of its fourth, 8 no legal code within one bit, 9 not the code due here, 10 no fill, 11 a reserved word for a sample or in an
- * ancillary packet, 15 the parity of a packet's header, 16 its checksum, 17 a packet that runs past its space. The place is 0 from
+ * code, 7 bit 9 of its fourth, 8 and 14 no legal code within one bit, 9 not the code due here, 10 no fill, 11 a reserved word for a sample or in
+ * an ancillary packet, 15 the parity of a packet's header, 16 its checksum, 17 a packet that runs past its space. The place is 0 from
  * fiskrogn_correct and for 1 to 4; otherwise it is the word's offset in the line. fiskrogn(3) has the list, and docs/FORMAT.md of the
  * sources, "Refusal numbers", the one whole table.
  */
@@ -24,8 +24,10 @@
 /* Whether F of this line differs from that of the line before it, 1 or 0. */
 #define FISKROGN_TURNS(system, line) ((system) == 525u ? (line) == 4u || (line) == 266u : (line) == 1u || (line) == 313u)
 
-/* Corrects the fourth word of a timing code. Refuses with 5, 7, 8 in that order, place 0. Otherwise answers the corrected word with
- * both low bits 0, plus 4,096 times the number (2 to 8) of the bit that was repaired, or plus nothing if the word was clean. */
+/* Corrects the fourth word of a timing code. Refuses with 5, with 7, and a code that has no legal one within one inverted bit with
+ * 8 where its seven bits have an even number of ones, so that at least two are wrong, and with 14 where they have an odd number, so that at
+ * least three are; in that order, place 0. Otherwise answers the corrected word with both low bits 0, plus 4,096 times the number (2 to 8) of
+ * the bit that was repaired, or plus nothing if the word was clean. */
 uint32_t fiskrogn_correct(uint32_t word);
 
 /* Judges the line that a walk awaits, lent as `count` bytes, two per word, low byte first. The walk is given by all that it holds: its

@@ -13,12 +13,13 @@ from independent import judge
 from independent.words import (
     BAD_CHECKSUM,
     BAD_PARITY,
+    HOPELESS_EVEN,
+    HOPELESS_ODD,
     LAST_WORD,
     NOT_DUE,
     NO_BIT_9,
     NO_FILL,
     NO_LINE,
-    NO_PATTERN,
     NO_PREAMBLE,
     NO_SYSTEM,
     OVER_A_WORD,
@@ -39,6 +40,7 @@ HEADER_TEXTS = {
     NO_SYSTEM: f"the system is neither {' nor '.join(map(str, judge.SYSTEMS))}",
     NO_LINE: "the start line is not one of the system",
 }
+NO_LEGAL_CODE = "a timing code has no legal code within one inverted bit"
 READ_TEXTS = {
     **HEADER_TEXTS,
     WRONG_LENGTH: "the recording ends inside a line",
@@ -46,10 +48,11 @@ READ_TEXTS = {
     OVER_A_WORD: f"a word is over {LAST_WORD}",
     NO_PREAMBLE: "one of the first three words of a timing code is wrong",
     NO_BIT_9: "bit 9 of a fourth word is 0",
-    NO_PATTERN: "a timing code has no legal code within one inverted bit",
+    HOPELESS_EVEN: f"{NO_LEGAL_CODE}, and an even number of ones",
     NOT_DUE: "a timing code is not the one due here",
     NO_FILL: "fill is due and is not there",
     RESERVED: "a reserved word stands where a sample or a user word is due",
+    HOPELESS_ODD: f"{NO_LEGAL_CODE}, and an odd number of ones",
     BAD_PARITY: "a header word of a packet has bad parity",
     BAD_CHECKSUM: "a packet's checksum is wrong",
     PAST_THE_SPACE: "a packet runs past its space",

@@ -89,7 +89,7 @@ def expected_words(source):
 
 
 def code_reports(source):
-    values = (0, 1, 7, 8, HIGHEST)
+    values = (0, 1, 7, 8, 14, HIGHEST)
     tags = (judge.CLEAN, judge.REPAIRED, judge.REFUSED)
     for tag, fvh, bit, number in product(tags, values, BITS, values):
         yield protocol.CODE_REPORT, (tag, fvh, bit, number)

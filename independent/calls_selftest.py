@@ -28,7 +28,8 @@ def shared_calls():
     yield "fourth of 8", [calls.fourth(fvh) for fvh in (7, 8, 13)], [964, 512, 872]
     yield "another expected", calls.correct_expecting(624, 7), (judge.REPAIRED, 1, 2, 0)
     yield "repaired told", judge.code_report(judge.REPAIRED, 1, 5, 0), (1, 5)
-    yield "refused told", judge.code_report(judge.REFUSED, 1, 5, 8), (0, 0)
+    for number in (8, 14):
+        yield f"refused with {number} told", judge.code_report(judge.REFUSED, 1, 5, number), (0, 0)
     yield "flags", [calls.flags(line) for line in (3, 625)], [(1, 1, 1, 0), (0, 0, 1, 1)]
     yield "flags outside", [calls.flags(line) for line in (0, 626)], [(0, 0, 0, 0)] * 2
     yield "systems", [judge.system_of(n) for n in (525, 625, 0, 526)], [525, 625, 625, 625]

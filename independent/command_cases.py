@@ -209,13 +209,13 @@ def spoilt(data, steps, offset, word):
     return recording(*header_of(data), lines)
 
 
-def extract_two_bits(source):
-    """Two bits inverted in one code, where the others are clean or damaged in one bit."""
-    for system, code, _ in product(SYSTEMS, range(2), range(4)):
+def extract_hopeless_codes(source):
+    """Two or all bits inverted in one code, where the others are clean or damaged in one bit."""
+    for system, code, count in product(SYSTEMS, range(2), (2, 2, 2, 7)):
         clean = some_recording(source, system)
         offset = fourth_offsets(system)[code]
         steps, _, words = some_line(source, clean)
-        fault = words[offset] ^ source.random.choice(inverted(2))
+        fault = words[offset] ^ source.random.choice(inverted(count))
         for data in (clean, damaged(source, clean)):
             yield extracted(spoilt(data, steps, offset, fault))
 
@@ -536,7 +536,7 @@ FAMILIES = (
     record_samples,
     record_both_faults,
     extract_recordings,
-    extract_two_bits,
+    extract_hopeless_codes,
     extract_faults,
     extract_captions,
     extract_cuts,

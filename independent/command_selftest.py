@@ -117,7 +117,8 @@ def said_refusals():
         (two_lines_with(0, 3, 116), "7, line 22, place 3: bit 9 of a fourth word is 0"),
         (
             two_lines_with(1, 3, 632),
-            "8, line 23, place 3: a timing code has no legal code within one inverted bit",
+            "8, line 23, place 3: a timing code has no legal code within one inverted bit, "
+            "and an even number of ones",
         ),
         (
             two_lines_with(0, 3, 628),
@@ -127,6 +128,11 @@ def said_refusals():
         (
             two_lines_with(1, 288, 3),
             "11, line 23, place 288: a reserved word stands where a sample or a user word is due",
+        ),
+        (
+            two_lines_with(0, 287, 848),
+            "14, line 22, place 287: a timing code has no legal code within one inverted bit, "
+            "and an odd number of ones",
         ),
         (
             two_lines_with(1, 4, *EMPTY, *EMPTY[:4], 0),
@@ -151,8 +157,8 @@ def said_refusals():
 
 
 def confirmed_files():
-    spoilt = two_lines_with(1, 3, 632)
-    files = {"a": TWO_LINES, "b": spoilt, "c": b"\0", "d": FOLDER}
+    spoilt, odd = two_lines_with(1, 3, 632), two_lines_with(0, 3, 1_023)
+    files = {"a": TWO_LINES, "b": spoilt, "c": b"\0", "d": FOLDER, "e": odd}
     yield "a file", answer(["confirm", "a"], b"", files), Answer(FIVE_LINES, b"", 0, files)
     said = b"confirm: x could not be read: REASON\n"
     for name in ("x", "a/", "a/x"):
@@ -164,16 +170,19 @@ def confirmed_files():
         "SYSTEM 0 START 0 LINES 0 REPAIRS 0 RESULT 1 0 0 c",
         "UNREAD ",
         "UNREAD d",
-        "FILES 5 LINES 3 HOURS 0.0000 REPAIRS 0 REFUSED 2 UNREAD 2",
+        "SYSTEM 625 START 22 LINES 0 REPAIRS 0 RESULT 14 22 3 e",
+        "FILES 6 LINES 3 HOURS 0.0000 REPAIRS 0 REFUSED 3 UNREAD 2",
     )
     errors = text(
         "confirm: b: refused 8, line 23, place 3: "
-        "a timing code has no legal code within one inverted bit",
+        "a timing code has no legal code within one inverted bit, and an even number of ones",
         "confirm: c: refused 1, line 0, place 0: the system is neither 525 nor 625",
         "confirm:  could not be read: REASON",
         "confirm: d holds no numbered recordings (0001.rec and so on)",
+        "confirm: e: refused 14, line 22, place 3: "
+        "a timing code has no legal code within one inverted bit, and an odd number of ones",
     )
-    got = answer(["confirm", "a", "b", "c", "", "d"], b"", files)
+    got = answer(["confirm", "a", "b", "c", "", "d", "e"], b"", files)
     yield "several", got, Answer(output, errors, 2, files)
     yield "refused wins", answer(["confirm", "b", "a"], b"", files).status, 1
 

@@ -27,7 +27,7 @@ from independent.finishing_cases import with_repairs
 from independent.folder_cases import LONG_NAME, ODD_NAMES
 from independent.index import ENTRY, TRAILER, Entry, index_bytes, trailer_bytes
 from independent.judge import LINES_LIMIT, fourth_offsets, line_size
-from independent.material import Source, edge_offsets, inverted, plain_and_blank_line
+from independent.material import EVEN, ODD, Source, edge_offsets, inverted, plain_and_blank_line
 from independent.recordings import HEADER_BYTES, header, header_of, lines_of, recording
 from independent.retention import FILE_TEXTS
 from independent.runs import STARTS, clean_lines, damaged
@@ -78,7 +78,7 @@ def finished_recordings(source):
 
 
 def finished_faults(source):
-    """A word over 1023, or wrong otherwise, behind lines that were repaired."""
+    """A word over 1023, or wrong otherwise, and hopeless codes, behind lines that were repaired."""
     for system in SYSTEMS:
         data = four_lines(source, system)
         offsets = (*source.random.sample(edge_offsets(system), 4), *fourth_offsets(system))
@@ -87,6 +87,9 @@ def finished_faults(source):
             word = lines_of(data)[steps][offset]
             fault = source.random.choice((source.over(word), word ^ inverted(2)[7] ^ 512))
             yield from finish(spoilt(data, steps, offset, fault))
+        for offset, fourths in product(fourth_offsets(system), (EVEN, ODD)):
+            steps, fault = source.random.randrange(4), source.random.choice(fourths)
+            yield case_of(("finish", "x"), spoilt(data, steps, offset, fault))
         for pair in ((system, 0), (system + 1, 1), (system, 65_535), (0, 0)):
             yield from finish(header(*pair) + data[HEADER_BYTES:])
             yield case_of(("finish", "x"), header(*pair))
@@ -196,10 +199,12 @@ def other_files(source, data):
         ((1, 1), (2, 1), (3, 2)), ((0, 1), (3, 2)), ((2, 1), (3, 2)), ((1, 1), (2, 2)),
     ):  # fmt: skip
         yield with_entries(file, system, [Entry(*pair) for pair in entries])
-    for steps in range(4):
-        bad = spoilt(data, steps, source.random.choice(edge_offsets(system)), 1_024)
-        yield bad[HEADER_BYTES:] + file[len(data) - HEADER_BYTES :]
     eav, _ = fourth_offsets(system)
+    over = [(steps, source.random.choice(edge_offsets(system)), 1_024) for steps in range(4)]
+    hopeless = [(1, eav, source.random.choice(fourths)) for fourths in (EVEN, ODD)]
+    for fault in (*over, *hopeless):
+        bad = spoilt(data, *fault)
+        yield bad[HEADER_BYTES:] + file[len(data) - HEADER_BYTES :]
     for steps in (0, 2):
         word = lines_of(data)[steps][eav]
         more = spoilt(data, steps, eav, word ^ source.random.choice(inverted(1)))

@@ -236,8 +236,9 @@ def promised():
 
 
 def commands():
+    bad, odd = two_lines_with(1, 0, 1_024), two_lines_with(1, 3, 1_023)
     files = {"r": DAMAGED, "f": ONE_FILE, "c": CLEAN_FILE, "d": FOLDER, "s": ONE_FILE[1:]}
-    bad = two_lines_with(1, 0, 1_024)
+    files |= {"o": odd, "h": odd[4:] + CLEAN_END}
     for words, output, errors, status in (
         ("ask f 625 22 1 1", "lines 1 to 1: all clean", "", 0),
         ("ask f 625 22 0 1", "lines 0 to 1: not all clean", "", 1),
@@ -255,6 +256,7 @@ def commands():
             "LINES 2 UNCLEAN 0: all lines are accepted and the index is theirs", "", 0,
         ),
         ("check c 625 23", "ordinal 0: line 23 refused 9, place 3", "", 1),
+        ("check h 625 22", "ordinal 1: line 23 refused 14, place 3", "", 1),
         ("check s 625 22", "", f"check: s: refused 19: {BAD_PARTS}", 2),
         ("check none 625 22", "", "check: none could not be read: REASON", 2),
         ("unfinish s 625 22", "", f"unfinish: s: refused 19: {BAD_PARTS}", 2),
@@ -262,6 +264,11 @@ def commands():
         ("finish r d", "", "finish: d is there already: remove it, or name another file", 2),
         ("finish r x/y", "", "finish: x/y could not be made: REASON", 2),
         ("finish none x", "", "finish: none could not be read: REASON", 2),
+        (
+            "finish o x", "",
+            "finish: o: refused 14, line 23, place 3: a timing code has no legal code within "
+            "one inverted bit, and an odd number of ones", 1,
+        ),
     ):  # fmt: skip
         said = [text(line) if line else b"" for line in (output, errors)]
         yield words, answer(words.split(), b"", files), Answer(*said, status, files)

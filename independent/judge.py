@@ -3,9 +3,9 @@
 Each rule stands beside the sentence of document 01 ("Precise rules and scope
 of the build") that it obeys, given between quotation marks; those on packets
 are of request L6 of document 02, those on the line at which V falls of L1, those
-on the tally of L9. Words and samples are lists of 16-bit integers, the numbers of
-a walk are 32-bit integers. A refusal is a pair of number and place; None stands
-where nothing is refused.
+on the two kinds of hopeless code of L5, those on the tally of L9. Words and
+samples are lists of 16-bit integers, the numbers of a walk are 32-bit integers. A
+refusal is a pair of number and place; None stands where nothing is refused.
 """
 
 import struct
@@ -15,12 +15,13 @@ from typing import NamedTuple
 from independent.packets import judge_space, ready_fault
 from independent.words import (
     ACCEPTED,
+    HOPELESS_EVEN,
+    HOPELESS_ODD,
     LAST_WORD,
     NOT_A_SAMPLE,
     NOT_DUE,
     NO_BIT_9,
     NO_LINE,
-    NO_PATTERN,
     NO_PREAMBLE,
     NO_SYSTEM,
     OVER_A_WORD,
@@ -148,9 +149,18 @@ SEVEN_BITS = sum(1 << bit for bit in CODE_BITS)
 CLEAN, REPAIRED, REFUSED = range(3)
 
 
+def hopeless_number(word):
+    """The number of a fourth word that has no legal pattern within one bit."""
+    ones = (word & SEVEN_BITS).bit_count()
+    # "Refusal 8 stays for the 56 patterns with an even number of ones that are not legal; a
+    # new 14 takes the 8 patterns with an odd number that have no legal pattern within one bit."
+    return HOPELESS_ODD if ones % 2 else HOPELESS_EVEN
+
+
 def correct(word):
     """Tag, FVH, repaired bit and refusal number of one fourth word."""
-    # "Correction refuses with 5, 7, 8 in that order"
+    # "Correction refuses with 5, 7, 8 in that order"; "Everything that hands on 8 hands on
+    # 14 in the same order"
     if word > LAST_WORD:
         return (REFUSED, 0, 0, OVER_A_WORD)
     if not word & BIT_9:
@@ -165,7 +175,7 @@ def correct(word):
             return (CLEAN, fvh, 0, 0)
         if distance == 1:
             return (REPAIRED, fvh, difference.bit_length() - 1, 0)
-    return (REFUSED, 0, 0, NO_PATTERN)
+    return (REFUSED, 0, 0, hopeless_number(word))
 
 
 # "A line's report carries both codes' reports in one record."
@@ -405,7 +415,7 @@ def bytes_refusal(system, data):
 def fourth_word_number(fvh, word):
     """The number of what is wrong with the fourth word of a code, or 0."""
     _, corrected, _, number = correct(word)
-    # "7, 8, 9 in that order"
+    # "7, 8, 9 in that order"; "Everything that hands on 8 hands on 14 in the same order"
     return number or (NOT_DUE if corrected != fvh else 0)
 
 
@@ -747,7 +757,8 @@ def capture_refusal(number, place):
 def capture_correct(word):
     """The capture process's correction of one fourth word."""
     _, fvh, bit, number = correct(word)
-    # "Correction refuses with 5, 7, 8 in that order, place 0"
+    # "Correction refuses with 5, 7, 8 in that order, place 0"; "Everything that hands on 8
+    # hands on 14 in the same order"
     if number:
         return capture_refusal(number, 0)
     # "otherwise it answers the corrected word with both low bits 0, plus 4,096

@@ -8,7 +8,7 @@ from independent import judge
 from independent.edges import EDGE_RECORDS, HIGHEST, RESERVED_WORDS, SYSTEMS
 from independent.judge import CODE_BITS, NO_READY, fourth_offsets, line_after, samples_of
 from independent.packets import LEAST_WORDS, packet
-from independent.words import FIRST_SAMPLE, LAST_SAMPLE
+from independent.words import FIRST_SAMPLE, HOPELESS_EVEN, HOPELESS_ODD, LAST_SAMPLE
 
 STORE_SIZE = 20_000
 LEGAL = range(FIRST_SAMPLE, LAST_SAMPLE + 1)
@@ -33,6 +33,17 @@ def other_code(word, mask):
     """The fourth word whose F, V, H differ from a fourth word's in the bits of a mask."""
     _, fvh, _, _ = judge.correct(word)
     return judge.FOURTH_WORDS[fvh ^ mask]
+
+
+def words_refused(number):
+    """The fourth words, with low bits of 0, whose correction is refused with a number."""
+    fourths = range(judge.BIT_9, 2 * judge.BIT_9, 4)
+    return [fourth for fourth in fourths if judge.correct(fourth)[3] == number]
+
+
+# Fourth words with no legal pattern within one bit: of an odd and of an even number of ones.
+ODD, EVEN = words_refused(HOPELESS_ODD), words_refused(HOPELESS_EVEN)
+HOPELESS = (*ODD, *EVEN)
 
 
 def timing_offsets(system):
@@ -248,7 +259,7 @@ class Source:
         fault = self.random.choice
         what, _ = judge.due_at(judge.due_of(system, line), offset)
         if what == judge.FOURTH_WORD:
-            return word ^ fault([judge.BIT_9, *inverted(2)])
+            return word ^ fault([judge.BIT_9, *inverted(2), *inverted(7)])
         if what == judge.FILL_WORD:
             return word ^ 1 << fault(range(judge.WORD_BITS))
         if what == judge.SAMPLE:

@@ -1,12 +1,12 @@
 """Inputs of whole confirming runs, made from fixed seeds, and the way each is handed over."""
 
-from itertools import product
+from itertools import cycle, product
 from typing import NamedTuple, Union
 
 from independent import judge
 from independent.edges import FALLS, SYSTEMS
 from independent.judge import fourth_offsets, line_after, v_written
-from independent.material import Source, changed, edge_offsets, inverted, other_code
+from independent.material import HOPELESS, Source, changed, edge_offsets, inverted, other_code
 from independent.packets import header_word
 from independent.recordings import HEADER_BYTES, header, header_of, lines_of, recording
 
@@ -150,13 +150,24 @@ def refused_words(source):
 
 
 def refused_codes(source):
-    """Fourth words refused with 7, 8 and 9; the same with bytes wanting at the end."""
+    """Fourth words refused with 7, 8, 14 and 9; the same with bytes wanting at the end."""
     for *_, word, with_fault in words_of_three_lines(source, fourth_offsets):
         others = [w for w in judge.FOURTH_WORDS if w != word]
-        for fault in (word ^ judge.BIT_9, word ^ 12, word ^ 448, *others):
+        masks = judge.BIT_9, 12, judge.SEVEN_BITS, 448
+        for fault in (*(word ^ mask for mask in masks), *others):
             whole = with_fault(fault)
             yield whole, PIPE
             yield whole[:-1], PIPE
+
+
+def hopeless_codes(source):
+    """Each hopeless code as EAV and as SAV, in turn in each line of three of both systems."""
+    lines = cycle(product(SYSTEMS, range(3)))
+    for (code, fourth), (system, n) in zip(product(range(2), HOPELESS), lines):
+        start = STARTS[system]
+        fault = {fourth_offsets(system)[code]: fourth | source.random.randrange(4)}
+        spoilt = replaced(clean_lines(source, system, start, 3), n, fault)
+        yield recording(system, start, spoilt), PIPE
 
 
 def foreign_lines(source):
@@ -277,6 +288,7 @@ FAMILIES = (
     repaired_fields,
     refused_words,
     refused_codes,
+    hopeless_codes,
     foreign_lines,
     captions,
     fall_lines,

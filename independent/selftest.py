@@ -6,8 +6,8 @@ Run: python3 -m independent.selftest
 import sys
 
 from independent import calls_selftest, captions_selftest, command_selftest, falls_selftest
-from independent import finished_selftest, judge, packets_selftest, programme_selftest
-from independent import tally_selftest, wrong_models
+from independent import finished_selftest, hopeless_selftest, judge, packets_selftest
+from independent import programme_selftest, tally_selftest, wrong_models
 from independent.edges import LISTED_LENGTHS, LISTED_LINES, LISTED_SAMPLES, LISTED_SERIAL
 from independent.judge import CLEAN_REPORT, FRESH_STATE, NO_READY, TABLE_FALL, Report, Walk
 from independent.judge import fourth_offsets
@@ -282,6 +282,7 @@ GROUPS = (
     *captions_selftest.GROUPS,
     *falls_selftest.GROUPS,
     *tally_selftest.GROUPS,
+    *hopeless_selftest.GROUPS,
     *wrong_models.GROUPS,
     *finished_selftest.GROUPS,
 )

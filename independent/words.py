@@ -1,7 +1,8 @@
 """Words and samples, and the numbers of refusals.
 
-Sentences between quotation marks are of document 01, those on packets of
-request L6 of document 02 and those on finished files of request L10.
+Sentences between quotation marks are of document 01, those on the two kinds of
+hopeless code of request L5 of document 02, those on packets of request L6 and
+those on finished files of request L10.
 """
 
 from operator import itemgetter
@@ -14,12 +15,13 @@ WRONG_COUNTS = 4  # "lines read is 10,000,000 or more, or repairs exceed twice l
 OVER_A_WORD = 5  # "a word over 1023"
 NO_PREAMBLE = 6  # "one of the first three words of a timing code is wrong"
 NO_BIT_9 = 7  # "bit 9 of a fourth word is 0"
-NO_PATTERN = 8  # "seven bits with no legal pattern within one bit"
+HOPELESS_EVEN = 8  # "patterns with an even number of ones that are not legal"
 NOT_DUE = 9  # "the corrected F, V, H are not those due here"
 NO_FILL = 10  # "fill is due and is not there"
 RESERVED = 11  # "a reserved word where a sample is due", and "a reserved user word"
 NOT_A_SAMPLE = 12  # "sample to be written is outside 4 to 1019"
 WRONG_STATE = 13  # "serial state: scrambled bits over 511 or last bit over 1"
+HOPELESS_ODD = 14  # "patterns with an odd number that have no legal pattern within one bit"
 BAD_PARITY = 15  # "bad header parity"
 BAD_CHECKSUM = 16  # "bad checksum (at the checksum)"
 PAST_THE_SPACE = 17  # "the user words and checksum run past the space (at the count word)"

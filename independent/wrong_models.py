@@ -1,13 +1,17 @@
-"""Wrong models of packets, V's fall and the tally, errors one is drawn to: cases must notice."""
+"""Wrong models of packets, V's fall, the tally and hopeless codes: cases must notice each.
+
+They are errors that one is drawn to.
+"""
 
 from functools import lru_cache
-from itertools import chain, cycle
+from itertools import chain, cycle, product
 from unittest.mock import patch
 
-from independent import camera_cases, caption_cases, captions, command, fall_cases, judge, kinds
-from independent import packet_cases, packets, programme, protocol, ready_cases, tally_cases, tapes
+from independent import call_cases, camera_cases, caption_cases, captions, command, fall_cases
+from independent import hopeless_cases, judge, kinds, packet_cases, packets, programme, protocol
+from independent import ready_cases, runs, tally_cases, tapes
 from independent.captions import HEAD
-from independent.cases import cases
+from independent.cases import cases, every_word
 from independent.command import Extracting
 from independent.compare import ALL, SEED
 from independent.edges import FALLS, HIGHEST
@@ -16,8 +20,10 @@ from independent.judge import TABLE_FALL, PacketWords, Walk
 from independent.material import Choice, Source
 from independent.packets import COUNT, LEAST_WORDS, START, Space
 from independent.programme import Recorder
-from independent.words import ACCEPTED, BAD_PARITY, NO_FILL, OVER_A_WORD, PAST_THE_SPACE
-from independent.words import RESERVED, WRONG_COUNTS, WRONG_LENGTH, first_fault, over_number
+from independent.recordings import confirm
+from independent.words import ACCEPTED, BAD_PARITY, HOPELESS_EVEN, HOPELESS_ODD, NOT_DUE
+from independent.words import NO_FILL, OVER_A_WORD, PAST_THE_SPACE, RESERVED, WRONG_COUNTS
+from independent.words import WRONG_LENGTH, first_fault, over_number
 
 # Families of few or small cases.
 FAMILIES = (
@@ -75,8 +81,14 @@ TALLY_FAMILIES = (
     tally_cases.tallies_on_tapes,
 )
 
-# How many cases of each family are tried.
+# Families of words that are corrected, and of lines with one and two hopeless codes.
+WORD_FAMILIES = (every_word, call_cases.expected_words)
+LINE_FAMILIES = (hopeless_cases.hopeless_codes,)
+PAIR_FAMILIES = (hopeless_cases.hopeless_in_both,)
+
+# How many cases of each family are tried; where fourteen calls take turns, some of each.
 FEW = Choice(first=20, step=7)
+OF_EACH_CALL = Choice(first=0, step=5)
 
 # The right functions, of which the wrong ones make use.
 CHECKSUM, FILL_FAULT, JUDGE_SPACE = packets.checksum, packets.fill_fault, packets.judge_space
@@ -90,6 +102,8 @@ DUE_WRITTEN, TURNED, BEGIN = tapes.due_written, tapes.turned, programme.begin
 BEGINS_FIELD, TALLY_AFTER, REPAIRS = judge.begins_field, judge.tally_after, judge.repairs
 WALK_REFUSAL, COUNTS_REFUSAL = judge.walk_refusal, judge.counts_refusal
 JUDGED, CAPTURE_JUDGE, NO_WALK = judge.judged, judge.capture_judge, judge.NO_WALK
+HOPELESS_NUMBER, FOURTH_WORD_NUMBER = judge.hopeless_number, judge.fourth_word_number
+NUMBER_WHERE = judge.number_where
 
 
 def eight_bit_checksum(words):
@@ -552,6 +566,43 @@ WRONG_ORDERS = (
 WRONG_IN_TURN = WRONG_TALLIES[:12]
 
 
+def odd_and_even_swapped(word):
+    return HOPELESS_EVEN if HOPELESS_NUMBER(word) == HOPELESS_ODD else HOPELESS_ODD
+
+
+def low_bits_counted(word):
+    ones = (word & 511).bit_count()
+    return HOPELESS_ODD if ones % 2 else HOPELESS_EVEN
+
+
+def in_place_of_odd(other):
+    """A line's number is another where correction answers 14."""
+
+    def line_number(fvh, word):
+        number = FOURTH_WORD_NUMBER(fvh, word)
+        return other if number == HOPELESS_ODD else number
+
+    return line_number
+
+
+def last_refusal(due, words, answers):
+    return [None, *filter(None, judge.faults_in_turn(due, words, answers))][-1]
+
+
+WRONG_CODES = (
+    ("odd and even are swapped", judge, "hopeless_number", odd_and_even_swapped),
+    ("every hopeless code is 14", judge, "hopeless_number", lambda word: HOPELESS_ODD),
+    ("every hopeless code is 8", judge, "hopeless_number", lambda word: HOPELESS_EVEN),
+    ("ones of the low bits are counted", judge, "hopeless_number", low_bits_counted),
+)
+WRONG_LINES = (
+    ("a line has 8 for 14", judge, "fourth_word_number", in_place_of_odd(HOPELESS_EVEN)),
+    ("a line has 9 for 14", judge, "fourth_word_number", in_place_of_odd(NOT_DUE)),
+    ("an odd code is taken for the one due", judge, "fourth_word_number", in_place_of_odd(0)),
+)
+WRONG_PAIRS = (("of two codes SAV's is refused", judge, "line_refusal", last_refusal),)
+
+
 @lru_cache(maxsize=None)
 def right_answers(families, choice):
     """Some cases of families, and the answers that are due."""
@@ -573,9 +624,15 @@ def right_commands(module, families):
     return [(asked, command.answer(*asked)) for asked in questions]
 
 
+def own_numbers():
+    """The numbers of words kept anew, since those that are kept are of the right model."""
+    anew = lru_cache(maxsize=None)(NUMBER_WHERE.__wrapped__)
+    return patch.object(judge, "number_where", anew)
+
+
 def is_noticed(answers, answer, module, name, wrong):
     """Whether any of these is answered otherwise where this stands in the model."""
-    with patch.object(module, name, wrong):
+    with own_numbers(), patch.object(module, name, wrong):
         return any(answer(asked) != due for asked, due in answers)
 
 
@@ -584,6 +641,30 @@ def noticed_answers(wrong, families, choice=FEW):
     answers = right_answers(families, choice)
     for sentence, *replaced in wrong:
         yield sentence, is_noticed(answers, kinds.answer_parts, *replaced), True
+
+
+def by_kind(answers):
+    """The answers that tell a number, by their kind."""
+    told = {}
+    for case, due in answers:
+        if case.kind not in kinds.PARTS:
+            told.setdefault(case.kind, []).append((case, due))
+    return told
+
+
+def noticed_by_each_kind(wrong, families, choice):
+    """Whether each wrong model is noticed by the cases of every kind that tells a number."""
+    told = by_kind(right_answers(families, choice))
+    for (sentence, *replaced), kind in product(wrong, sorted(told)):
+        noticed = is_noticed(told[kind], kinds.answer_parts, *replaced)
+        yield f"{sentence}, kind {kind}", noticed, True
+
+
+def noticed_runs(wrong, family):
+    """Whether each wrong model is noticed by the confirming program's runs of a family."""
+    outputs = [(data, confirm(data)) for data, _ in family(Source(SEED, family.__name__))]
+    for sentence, *replaced in wrong:
+        yield sentence, is_noticed(outputs, confirm, *replaced), True
 
 
 def noticed_commands(wrong, module, families):
@@ -625,6 +706,22 @@ def wrong_in_turn():
     return noticed_answers(WRONG_IN_TURN, (tally_cases.fields_line_by_line,), ALL)
 
 
+def wrong_codes():
+    return noticed_by_each_kind(WRONG_CODES, WORD_FAMILIES, OF_EACH_CALL)
+
+
+def wrong_codes_in_lines():
+    return noticed_by_each_kind(WRONG_CODES + WRONG_LINES, LINE_FAMILIES, OF_EACH_CALL)
+
+
+def wrong_codes_in_pairs():
+    return noticed_by_each_kind(WRONG_PAIRS, PAIR_FAMILIES, OF_EACH_CALL)
+
+
+def wrong_codes_in_runs():
+    return noticed_runs(WRONG_CODES + WRONG_LINES, runs.hopeless_codes)
+
+
 GROUPS = (
     wrong_models,
     wrong_commands,
@@ -633,4 +730,8 @@ GROUPS = (
     wrong_tallies,
     wrong_orders,
     wrong_in_turn,
+    wrong_codes,
+    wrong_codes_in_lines,
+    wrong_codes_in_pairs,
+    wrong_codes_in_runs,
 )

@@ -57,7 +57,7 @@ corrected-low (Clean fvh) b = omega (arith, fourth-below fvh)
 corrected-low (Repaired fvh bit) b = omega (arith, fourth-below fvh, b .1)
 corrected-low (Refused number) b = omega arith
 
--- Correction from C refuses exactly as the table of 5, 7, 8 says, for every number that may come.
+-- Correction from C refuses exactly as the table of 5, 7, 8, 14 says, for every number that may come.
 pub capture-correct-exact : (word : ℕ) → Keeps (correctionRefusals word) (toldBy (correctAnswer word))
 unfolding correctAnswer
 capture-correct-exact word =

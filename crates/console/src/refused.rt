@@ -18,13 +18,17 @@ fn say_words(number: u32) -> bool {
         7 => io::write_all(STDERR_FILENO, b"bit 9 of a fourth word is 0\n"),
         8 => io::write_all(
             STDERR_FILENO,
-            b"a timing code has no legal code within one inverted bit\n",
+            b"a timing code has no legal code within one inverted bit, and an even number of ones\n",
         ),
         9 => io::write_all(STDERR_FILENO, b"a timing code is not the one due here\n"),
         10 => io::write_all(STDERR_FILENO, b"fill is due and is not there\n"),
         11 => io::write_all(
             STDERR_FILENO,
             b"a reserved word stands where a sample or a user word is due\n",
+        ),
+        14 => io::write_all(
+            STDERR_FILENO,
+            b"a timing code has no legal code within one inverted bit, and an odd number of ones\n",
         ),
         15 => io::write_all(STDERR_FILENO, b"a header word of a packet has bad parity\n"),
         16 => io::write_all(STDERR_FILENO, b"a packet's checksum is wrong\n"),

@@ -28,7 +28,7 @@ abbrev pub wantedRefusals : Wanted → ℕ → ℕ → Row
 wantedRefusals (within due) w place = space.whereRefusals due w place
 wantedRefusals (apart due) w place = whereRefusals due w place
 
--- "at one offset 5 comes before 6 to 11, and 7, 8, 9 in that order", and "15 before 17"
+-- "at one offset 5 comes before 6 to 11, and 7, 8, 9 in that order", 14 where 8 stands, and "15 before 17"
 abbrev pub offsetRefusals : Due → List ℕ → ℕ → Row
 offsetRefusals d words i =
     when (mostWord < wordAt words i) overTen i before wantedRefusals (wantedAt d (wordAt words) i) (wordAt words i) i

@@ -55,7 +55,8 @@ buffer-number y cb cr r (inr (_, inr q)) = same-number (q .1 .1)
 fourth-number : (fvh w i : ℕ) (r : Refusal) → fourthRefusals fvh w i r → r .number ≡ wrongLength → ⊥
 fourth-number fvh w i r (inl q) e = omega (arith, same-number (q .1))
 fourth-number fvh w i r (inr (_, inl q)) e = omega (arith, same-number (q .1))
-fourth-number fvh w i r (inr (_, inr q)) e = omega (arith, same-number (q .1 .1))
+fourth-number fvh w i r (inr (_, inr (_, inl q))) e = omega (arith, same-number (q .1))
+fourth-number fvh w i r (inr (_, inr (_, inr q))) e = omega (arith, same-number (q .1 .1))
 
 where-number : (due : What) (w i : ℕ) (r : Refusal) → whereRefusals due w i r → r .number ≡ wrongLength → ⊥
 where-number Ones w i r q e = omega (arith, same-number (q .1))

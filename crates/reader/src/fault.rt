@@ -34,7 +34,7 @@ fn number_where(due: u32, correction: Correction) -> u32
     }
 }
 
-// The number of what is wrong with a word where this is due, or 0: 5 comes before 6 to 11.
+// The number of what is wrong with a word where this is due, or 0: 5 comes before all others.
 pub(crate) fn fault(due: What, word: u16) -> u32
     ensures { λ r. ⌜ r ≡ faultWhere due word ⌝ }
 {

@@ -33,9 +33,9 @@ noCode = 6
 abbrev pub bitNine : ℕ
 bitNine = 7
 
--- "seven bits with no legal pattern within one bit"
-abbrev pub beyondCorrection : ℕ
-beyondCorrection = 8
+-- "seven bits with no legal pattern within one bit", and, by document 02, L5, "an even number of ones"
+abbrev pub hopelessEven : ℕ
+hopelessEven = 8
 
 -- "the corrected F, V, H are not those due here"
 abbrev pub notDue : ℕ
@@ -57,7 +57,11 @@ outside = 12
 abbrev pub badState : ℕ
 badState = 13
 
--- Document 02, L6: "15 bad header parity"
+-- Document 02, L5: "an odd number that have no legal pattern within one bit"
+abbrev pub hopelessOdd : ℕ
+hopelessOdd = 14
+
+-- L6: "15 bad header parity"
 abbrev pub badParity : ℕ
 badParity = 15
 

@@ -37,8 +37,8 @@ impl Number {
     // Bit 9 of a fourth word is 0.
     pub const BIT_NINE: u32 = 7;
 
-    // Seven bits have no legal pattern within one bit.
-    pub const BEYOND_CORRECTION: u32 = 8;
+    // Seven bits have no legal pattern within one bit, and an even number of ones.
+    pub const HOPELESS_EVEN: u32 = 8;
 
     // The corrected F, V, H are not those due here.
     pub const NOT_DUE: u32 = 9;
@@ -54,6 +54,9 @@ impl Number {
 
     // Serial state: scrambled bits over 511 or last bit over 1.
     pub const BAD_STATE: u32 = 13;
+
+    // Seven bits have no legal pattern within one bit, and an odd number of ones.
+    pub const HOPELESS_ODD: u32 = 14;
 
     // A header word of a packet has bad parity.
     pub const BAD_PARITY: u32 = 15;

@@ -19,7 +19,7 @@ pub both-right : (a b : Bool) → T (both a b) → T b
 both-right true b t = t
 both-right false b t = absurd t
 
-joined : (a b : Bool) → T a → T b → T (both a b)
+pub joined : (a b : Bool) → T a → T b → T (both a b)
 joined true b s t = t
 joined false b s t = s
 

@@ -1,22 +1,22 @@
 -- The promises on timing codes, each of the definitions that the calls' contracts cite. Assumes nothing.
 use Prim.Native.Nat.{ℕ, _+_, _-_, _*_, _/_, _%_, _^_, _<_, _≤_}
 use mathlib.Core.Path.{_≡_, refl, sym, ap, subst, _∙_}
-use mathlib.Core.Bool.{Bool, true, false, cond}
+use mathlib.Core.Bool.{Bool, true, false, cond, not}
 use mathlib.Core.Logic.{_⊎_, inl, inr, ⊎-elim}
 use native.Mathlib.Omega.{arith}
-use lib.Dec.{T, ltb, leb, eqb, eqb→eq, ltb→lt, le→leb, lt→ltb}
+use lib.Dec.{T, T-not, not-T, ltb, leb, eqb, eqb→eq, ltb→lt, leb→le, le→leb, lt→ltb}
 use lib.Bits.{bitXor}
 use lib.Count.{onesIn, ones, trailingZeros}
-use borrow.Author.Tests.{lt-ltb, le-ltb, ltb-true, ltb-false, leb-true, leb-false, eqb-true, eq-eqb}
+use borrow.Author.Tests.{lt-ltb, le-ltb, ltb-true, ltb-false, eqb-true, eq-eqb, ne-eqb}
 use Rattle.refusal.specs.Table.{Decides, Keeps}
-use Rattle.refusal.proofs.Cases.{by-test}
+use Rattle.refusal.proofs.Cases.{by-cond, by-test}
 use Rattle.refusal.proofs.Tables.{Numbers, keeps-number, numbers-when, numbers-before, decides-when, decides-before}
 use Rattle.timing.specs.declared.Correction.{Correction}
 use Rattle.timing.specs.declared.Correction.the-variants.{Clean, Repaired, Refused}
-use Rattle.timing.specs.Code.{legalOf, fourthOf, sevenOf, distanceOf, bitOf, correctionBelow, patternCorrection, correctionOf}
+use Rattle.timing.specs.Code.{legalOf, fourthOf, sevenOf, distanceOf, bitOf, hopelessOf, correctionBelow, patternCorrection, correctionOf}
 use Rattle.timing.specs.Report.{numberOf, numberWhere, valuesOf}
-use Rattle.timing.specs.Refusals.{NoneWithinOne, fourthRefusals, correctionRefusals, refusalOf}
-use Rattle.timing.proofs.Every.{both, both-left, both-right, implies, meet, every, countBelow, lift, lift2, lift3, gather}
+use Rattle.timing.specs.Refusals.{NoneWithinOne, BeyondCorrection, EvenNotLegal, OddNoneWithinOne, fourthRefusals, correctionRefusals, refusalOf}
+use Rattle.timing.proofs.Every.{both, both-left, both-right, implies, meet, every, countBelow, joined, lift, lift2, lift3, gather}
 use Rattle.timing.proofs.Same.{same, same→eq}
 use Rattle.timing.proofs.Laws.{by-pattern, Bounded, bounded}
 
@@ -92,49 +92,136 @@ unfolding either
 split true b t = inl tt
 split false b t = inr t
 
+-- the tests: no legal pattern is near; an even number of ones, and not legal; an odd number of ones, and none near
 far : ℕ → Bool
 far p = every 8 (λ k. ltb 1 (distanceOf p (legalOf k)))
 
-far-none : (p : ℕ) → T (far p) → NoneWithinOne p
-unfolding far
-far-none p t k h = ltb→lt 1 (distanceOf p (legalOf k)) (lift 8 (λ k. ltb 1 (distanceOf p (legalOf k))) t k h)
+even-far : ℕ → Bool
+even-far p = both (eqb (ones p % 2) 0) (every 8 (λ k. not (eqb p (legalOf k))))
 
-none-far : (p : ℕ) → NoneWithinOne p → T (far p)
-unfolding far
-none-far p none = gather 8 (λ k. ltb 1 (distanceOf p (legalOf k))) (λ k h. lt→ltb 1 (distanceOf p (legalOf k)) (none k h))
+odd-far : ℕ → Bool
+odd-far p = both (eqb (ones p % 2) 1) (far p)
 
--- the number of seven bits is 8 where none is near, and 0 otherwise
-pattern-number : (p : ℕ) → p < 128 → numberOf (patternCorrection p) ≡ cond (far p) 8 0
+T-true : (t : Bool) → T t → t ≡ true
+T-true true h = refl
+T-true false h = absurd h
+
+true-T : (t : Bool) → t ≡ true → T t
+true-T t e = subst T (sym e) tt
+
+far-only : (p : ℕ) → far p ≡ true → NoneWithinOne p
+unfolding far
+far-only p e k h = ltb→lt 1 (distanceOf p (legalOf k)) (lift 8 (λ k. ltb 1 (distanceOf p (legalOf k))) (true-T (far p) e) k h)
+
+far-back : (p : ℕ) → NoneWithinOne p → far p ≡ true
+unfolding far
+far-back p none = T-true (far p) (gather 8 (λ k. ltb 1 (distanceOf p (legalOf k))) (λ k h. lt→ltb 1 (distanceOf p (legalOf k)) (none k h)))
+
+even-only : (p : ℕ) → even-far p ≡ true → EvenNotLegal p
+unfolding even-far
+even-only p e =
+    let t = true-T (even-far p) e in
+    let others = both-right (eqb (ones p % 2) 0) (every 8 (λ k. not (eqb p (legalOf k)))) t in
+    record {
+      even = eqb→eq _ 0 (both-left (eqb (ones p % 2) 0) _ t);
+      other = λ k h q. T-not (eqb p (legalOf k)) (lift 8 (λ k. not (eqb p (legalOf k))) others k h) (true-T _ (eq-eqb _ _ q));
+    }
+
+even-back : (p : ℕ) → EvenNotLegal p → even-far p ≡ true
+unfolding even-far
+even-back p kind =
+    T-true (even-far p)
+    (joined (eqb (ones p % 2) 0) (every 8 (λ k. not (eqb p (legalOf k)))) (true-T _ (eq-eqb _ 0 (kind .even)))
+    (gather 8 (λ k. not (eqb p (legalOf k))) (λ k h. not-T (eqb p (legalOf k)) (λ t. kind .other k h (eqb→eq _ _ t)))))
+
+odd-only : (p : ℕ) → odd-far p ≡ true → OddNoneWithinOne p
+unfolding odd-far
+odd-only p e =
+    let t = true-T (odd-far p) e in
+    record {
+      odd = eqb→eq _ 1 (both-left (eqb (ones p % 2) 1) (far p) t);
+      none = far-only p (T-true (far p) (both-right (eqb (ones p % 2) 1) (far p) t));
+    }
+
+odd-back : (p : ℕ) → OddNoneWithinOne p → odd-far p ≡ true
+unfolding odd-far
+odd-back p kind = T-true (odd-far p) (joined (eqb (ones p % 2) 1) (far p) (true-T _ (eq-eqb _ 1 (kind .odd))) (true-T (far p) (far-back p (kind .none))))
+
+-- the number of seven bits is 0 where a legal pattern is near, and otherwise by the number of ones; and so it is by the two kinds
+pattern-number : (p : ℕ) → p < 128 → numberOf (patternCorrection p) ≡ cond (far p) (hopelessOf p) 0
 unfolding correctionBelow far
-pattern-number p h = eqb→eq _ _ (lift 128 (λ p. eqb (numberOf (patternCorrection p)) (cond (far p) 8 0)) tt p h)
+pattern-number p h = eqb→eq _ _ (lift 128 (λ p. eqb (numberOf (patternCorrection p)) (cond (far p) (hopelessOf p) 0)) tt p h)
 
--- where the test is known, the number is
-pattern-8 : (p : ℕ) → p < 128 → NoneWithinOne p → numberOf (patternCorrection p) ≡ 8
-pattern-8 p h none = go (far p) refl
-  where
-    go : (t : Bool) → far p ≡ t → numberOf (patternCorrection p) ≡ 8
-    go true e = pattern-number p h ∙ ap (λ (t : Bool). cond t 8 0) e
-    go false e = absurd (subst T e (none-far p none))
+abbrev of-kind : Bool → Bool → ℕ → ℕ
+of-kind even odd others = cond even 8 (cond odd 14 others)
 
-pattern-0 : (p : ℕ) → p < 128 → (NoneWithinOne p → ⊥) → numberOf (patternCorrection p) ≡ 0
-pattern-0 p h some = go (far p) refl
-  where
-    go : (t : Bool) → far p ≡ t → numberOf (patternCorrection p) ≡ 0
-    go true e = absurd (some (far-none p (subst T (sym e) tt)))
-    go false e = pattern-number p h ∙ ap (λ (t : Bool). cond t 8 0) e
+by-kind : ℕ → ℕ → ℕ
+by-kind p others = of-kind (even-far p) (odd-far p) others
 
--- Demand 2, of a ten-bit fourth word with bit 9 set.
-pub beyond-correction : (w : ℕ) → w / 512 ≡ 1 → NoneWithinOne (sevenOf w) → numberOf (correctionOf w) ≡ 8
-beyond-correction w high none = ap numberOf (by-pattern w high) ∙ pattern-8 (sevenOf w) (omega arith) none
+pattern-kind : (p : ℕ) → p < 128 → numberOf (patternCorrection p) ≡ by-kind p 0
+unfolding correctionBelow far even-far odd-far by-kind
+pattern-kind p h = eqb→eq _ _ (lift 128 (λ p. eqb (numberOf (patternCorrection p)) (by-kind p 0)) tt p h)
 
-pub only-beyond-correction : (w : ℕ) → w / 512 ≡ 1 → (numberOf (correctionOf w) ≡ 0 → ⊥) → NoneWithinOne (sevenOf w)
-only-beyond-correction w high refused k less =
-    by-test (leb (distanceOf (sevenOf w) (legalOf k)) 1)
-    (λ e. absurd (refused (ap numberOf (by-pattern w high) ∙ pattern-0 (sevenOf w) (omega arith) (λ none.
-    let a = none k less in
-    let b = leb-true (distanceOf (sevenOf w) (legalOf k)) 1 e in
-    omega arith))))
-    (λ e. leb-false (distanceOf (sevenOf w) (legalOf k)) 1 e)
+-- of a ten-bit fourth word with bit 9 set
+module _ (w : ℕ) (high : w / 512 ≡ 1) where
+  number-here : numberOf (correctionOf w) ≡ cond (far (sevenOf w)) (hopelessOf (sevenOf w)) 0
+  number-here = ap numberOf (by-pattern w high) ∙ pattern-number (sevenOf w) (omega arith)
+
+  kind-here : numberOf (correctionOf w) ≡ by-kind (sevenOf w) 0
+  kind-here = ap numberOf (by-pattern w high) ∙ pattern-kind (sevenOf w) (omega arith)
+
+  none-here : NoneWithinOne (sevenOf w) → numberOf (correctionOf w) ≡ hopelessOf (sevenOf w)
+  none-here none = number-here ∙ ap (λ (t : Bool). cond t (hopelessOf (sevenOf w)) 0) (far-back (sevenOf w) none)
+
+  -- Demand 2: beyond correction, 8 or 14, exactly when no legal pattern lies within one inverted bit.
+  pub beyond-correction : NoneWithinOne (sevenOf w) → BeyondCorrection (numberOf (correctionOf w))
+  unfolding hopelessOf
+  beyond-correction none =
+      subst BeyondCorrection (sym (none-here none))
+      (by-cond BeyondCorrection (eqb (ones (sevenOf w) % 2) 0) 8 14 (λ e. inl refl) (λ e. inr refl))
+
+  pub only-beyond-correction : (numberOf (correctionOf w) ≡ 0 → ⊥) → NoneWithinOne (sevenOf w)
+  only-beyond-correction refused =
+      by-test (far (sevenOf w)) (far-only (sevenOf w))
+      (λ e. absurd (refused (number-here ∙ ap (λ (t : Bool). cond t (hopelessOf (sevenOf w)) 0) e)))
+
+  -- 14 exactly when the number of ones is odd besides; 8 exactly when it is even and the pattern is not legal.
+  pub odd-is-14 : OddNoneWithinOne (sevenOf w) → numberOf (correctionOf w) ≡ 14
+  unfolding hopelessOf
+  odd-is-14 kind =
+      let odd = kind .odd in
+      none-here (kind .none) ∙ ap (λ (t : Bool). cond t 8 14) (ne-eqb (ones (sevenOf w) % 2) 0 (λ e. omega arith))
+
+  pub only-odd-is-14 : numberOf (correctionOf w) ≡ 14 → OddNoneWithinOne (sevenOf w)
+  unfolding by-kind
+  only-odd-is-14 e = odd-only (sevenOf w) (picked (even-far (sevenOf w)) (odd-far (sevenOf w)) (sym kind-here ∙ e))
+    where
+      picked : (even odd : Bool) → of-kind even odd 0 ≡ 14 → odd ≡ true
+      picked true odd q = absurd (omega arith)
+      picked false true q = refl
+      picked false false q = absurd (omega arith)
+
+  pub even-is-8 : EvenNotLegal (sevenOf w) → numberOf (correctionOf w) ≡ 8
+  unfolding by-kind
+  even-is-8 kind = kind-here ∙ ap (λ (even : Bool). of-kind even (odd-far (sevenOf w)) 0) (even-back (sevenOf w) kind)
+
+  pub only-even-is-8 : numberOf (correctionOf w) ≡ 8 → EvenNotLegal (sevenOf w)
+  unfolding by-kind
+  only-even-is-8 e = even-only (sevenOf w) (picked (even-far (sevenOf w)) (odd-far (sevenOf w)) (sym kind-here ∙ e))
+    where
+      picked : (even odd : Bool) → of-kind even odd 0 ≡ 8 → even ≡ true
+      picked true odd q = refl
+      picked false true q = absurd (omega arith)
+      picked false false q = absurd (omega arith)
+
+-- So at least two bits are wrong where a code is refused with 8, and with 14 at least three: every legal pattern is that far away.
+away-by-number : ℕ → ℕ → Bool
+away-by-number p k = implies (eqb (numberOf (patternCorrection p)) 14) (leb 3 (distanceOf p (legalOf k)))
+
+pub three-wrong-at-14 : (p fvh : ℕ) → p < 128 → fvh < 8 → numberOf (patternCorrection p) ≡ 14 → 3 ≤ distanceOf p (legalOf fvh)
+unfolding correctionBelow away-by-number
+three-wrong-at-14 p fvh hp hk e =
+    leb→le 3 _ (meet (eqb (numberOf (patternCorrection p)) 14) _ (lift2 128 8 away-by-number tt p fvh hp hk) (true-T _ (eq-eqb _ 14 e)))
 
 -- A pattern is within one inverted bit of a legal one exactly when it is that one, or that one with one of the seven bits inverted.
 one-inverted : ℕ → ℕ → Bool
@@ -158,7 +245,7 @@ unfolding legalOf distanceOf
 one-inverted-is-within-one k b hk hb =
     eqb→eq _ _ (lift2 8 7 (λ k b. eqb (distanceOf (bitXor (legalOf k) (2 ^ b)) (legalOf k)) 1) tt k b hk hb)
 
--- Of the 128 patterns 8 are legal, 56 are repaired and 64 are refused.
+-- Of the 128 patterns 8 are legal, 56 are repaired, 56 are refused with 8 and 8 with 14.
 abbrev pub kindOf : Correction → ℕ
 kindOf (Clean fvh) = 0
 kindOf (Repaired fvh bit) = 1
@@ -167,37 +254,29 @@ kindOf (Refused number) = number
 pub pattern-counts :
     (countBelow 128 (λ p. eqb (kindOf (patternCorrection p)) 0) ≡ 8)
     × (countBelow 128 (λ p. eqb (kindOf (patternCorrection p)) 1) ≡ 56)
-    × (countBelow 128 (λ p. eqb (kindOf (patternCorrection p)) 8) ≡ 64)
+    × (countBelow 128 (λ p. eqb (kindOf (patternCorrection p)) 8) ≡ 56)
+    × (countBelow 128 (λ p. eqb (kindOf (patternCorrection p)) 14) ≡ 8)
 unfolding correctionBelow
-pattern-counts = (refl, refl, refl)
+pattern-counts = (refl, refl, refl, refl)
 
 -- A pattern that is not refused lies within one bit of exactly one legal pattern, and a refused one of none.
 pub one-legal-pattern : (p : ℕ) → p < 128
-    → countBelow 8 (λ k. leb (distanceOf p (legalOf k)) 1) ≡ cond (eqb (numberOf (patternCorrection p)) 8) 0 1
+    → countBelow 8 (λ k. leb (distanceOf p (legalOf k)) 1) ≡ cond (eqb (numberOf (patternCorrection p)) 0) 1 0
 unfolding correctionBelow
 one-legal-pattern p h =
     eqb→eq _ _
-    (lift 128 (λ p. eqb (countBelow 8 (λ k. leb (distanceOf p (legalOf k)) 1)) (cond (eqb (numberOf (patternCorrection p)) 8) 0 1)) tt p h)
+    (lift 128 (λ p. eqb (countBelow 8 (λ k. leb (distanceOf p (legalOf k)) 1)) (cond (eqb (numberOf (patternCorrection p)) 0) 1 0)) tt p h)
 
 -- ---- Each refusal comes exactly when its condition holds and none earlier does.
 
 -- the number of seven bits where F, V, H are due
-pattern-where : (due p : ℕ) → due < 8 → p < 128
-    → numberWhere due (patternCorrection p) ≡ cond (far p) 8 (cond (ltb 1 (distanceOf p (legalOf due))) 9 0)
-unfolding correctionBelow far
+where-due : ℕ → ℕ → ℕ
+where-due due p = by-kind p (cond (ltb 1 (distanceOf p (legalOf due))) 9 0)
+
+pattern-where : (due p : ℕ) → due < 8 → p < 128 → numberWhere due (patternCorrection p) ≡ where-due due p
+unfolding correctionBelow far even-far odd-far by-kind where-due
 pattern-where due p hd hp =
-    eqb→eq _ _
-    (lift2 8 128 (λ due p. eqb (numberWhere due (patternCorrection p)) (cond (far p) 8 (cond (ltb 1 (distanceOf p (legalOf due))) 9 0))) tt due p hd hp)
-
-far-only : (p : ℕ) → far p ≡ true → NoneWithinOne p
-far-only p e = far-none p (subst T (sym e) tt)
-
-far-back : (p : ℕ) → NoneWithinOne p → far p ≡ true
-far-back p none = T-true (far p) (none-far p none)
-  where
-    T-true : (t : Bool) → T t → t ≡ true
-    T-true true h = refl
-    T-true false h = absurd h
+    eqb→eq _ _ (lift2 8 128 (λ due p. eqb (numberWhere due (patternCorrection p)) (where-due due p)) tt due p hd hp)
 
 -- what a test on the word picks is the number of what it picks
 pub number-picked : (g : Correction → ℕ) (t : Bool) (a b : Correction) → g (cond t a b) ≡ cond t (g a) (g b)
@@ -206,33 +285,38 @@ number-picked g false a b = refl
 
 -- The numbers of correction keep to its table.
 pub correction-exact : (w : ℕ) → Keeps (correctionRefusals w) (refusalOf (correctionOf w))
-unfolding correctionOf
+unfolding correctionOf by-kind
 correction-exact w =
+    let p : ℕ = sevenOf w in
     keeps-number (correctionRefusals w) (numberOf (correctionOf w))
-    (rw (number-picked numberOf (ltb 1023 w), number-picked numberOf (eqb (w / 512 % 2) 0), pattern-number (sevenOf w) (omega arith))
+    (rw (number-picked numberOf (ltb 1023 w), number-picked numberOf (eqb (w / 512 % 2) 0), pattern-kind p (omega arith))
     (numbers-before (ltb 1023 w) (1023 < w) 5 0 _ _ (ltb-true 1023 w) (lt-ltb 1023 w) (λ z. omega arith)
     (numbers-before (eqb (w / 512 % 2) 0) (w / 512 % 2 ≡ 0) 7 0 _ _ (eqb-true _ 0) (eq-eqb _ 0) (λ z. omega arith)
-    (numbers-when (far (sevenOf w)) (NoneWithinOne (sevenOf w)) 8 0 (far-only (sevenOf w)) (far-back (sevenOf w)) (λ z. omega arith)))))
+    (numbers-before (even-far p) (EvenNotLegal p) 8 0 _ _ (even-only p) (even-back p) (λ z. omega arith)
+    (numbers-when (odd-far p) (OddNoneWithinOne p) 14 0 (odd-only p) (odd-back p) (λ z. omega arith))))))
 
 pub correction-decides : (w : ℕ) → Decides (correctionRefusals w)
 correction-decides w =
     decides-before _ _ (decides-when (1023 < w) 5 0)
-    (decides-before _ _ (decides-when (w / 512 % 2 ≡ 0) 7 0) (decides-when (NoneWithinOne (sevenOf w)) 8 0))
+    (decides-before _ _ (decides-when (w / 512 % 2 ≡ 0) 7 0)
+    (decides-before _ _ (decides-when (EvenNotLegal (sevenOf w)) 8 0) (decides-when (OddNoneWithinOne (sevenOf w)) 14 0)))
 
 -- So do those of a fourth word in its place, where F, V, H are due.
 pub fourth-numbers : (due w place : ℕ) → due < 8 → w ≤ 1023 → Numbers (fourthRefusals due w place) (numberWhere due (correctionOf w)) place
-unfolding correctionOf
+unfolding correctionOf by-kind where-due
 fourth-numbers due w place hd ten =
-    rw (le-ltb 1023 w ten, number-picked (numberWhere due) (eqb (w / 512 % 2) 0), pattern-where due (sevenOf w) hd (omega arith))
+    let p : ℕ = sevenOf w in
+    rw (le-ltb 1023 w ten, number-picked (numberWhere due) (eqb (w / 512 % 2) 0), pattern-where due p hd (omega arith))
     (numbers-before (eqb (w / 512 % 2) 0) (w / 512 % 2 ≡ 0) 7 place _ _ (eqb-true _ 0) (eq-eqb _ 0) (λ z. omega arith)
-    (numbers-before (far (sevenOf w)) (NoneWithinOne (sevenOf w)) 8 place _ _ (far-only (sevenOf w)) (far-back (sevenOf w)) (λ z. omega arith)
-    (numbers-when (ltb 1 (distanceOf (sevenOf w) (legalOf due))) (1 < distanceOf (sevenOf w) (legalOf due)) 9 place
-    (ltb-true 1 _) (lt-ltb 1 _) (λ z. omega arith))))
+    (numbers-before (even-far p) (EvenNotLegal p) 8 place _ _ (even-only p) (even-back p) (λ z. omega arith)
+    (numbers-before (odd-far p) (OddNoneWithinOne p) 14 place _ _ (odd-only p) (odd-back p) (λ z. omega arith)
+    (numbers-when (ltb 1 (distanceOf p (legalOf due))) (1 < distanceOf p (legalOf due)) 9 place (ltb-true 1 _) (lt-ltb 1 _) (λ z. omega arith)))))
 
 pub fourth-decides : (due w place : ℕ) → Decides (fourthRefusals due w place)
 fourth-decides due w place =
     decides-before _ _ (decides-when (w / 512 % 2 ≡ 0) 7 place)
-    (decides-before _ _ (decides-when (NoneWithinOne (sevenOf w)) 8 place) (decides-when (1 < distanceOf (sevenOf w) (legalOf due)) 9 place))
+    (decides-before _ _ (decides-when (EvenNotLegal (sevenOf w)) 8 place)
+    (decides-before _ _ (decides-when (OddNoneWithinOne (sevenOf w)) 14 place) (decides-when (1 < distanceOf (sevenOf w) (legalOf due)) 9 place)))
 
 -- ---- Two results allowed for one word are the same.
 pub correct-one-result : (w : ℕ) (r s : Correction) → r ≡ correctionOf w → s ≡ correctionOf w → r ≡ s

@@ -1,10 +1,10 @@
--- Document 01, "Numbers and layout" (the fourth word) and "Correction".
+-- Document 01, "Numbers and layout" (the fourth word) and "Correction"; document 02, L5.
 use Prim.Native.Nat.{ℕ, zero, suc, _+_, _*_, _/_, _%_}
 use mathlib.Core.Bool.{cond}
 use lib.Dec.{ltb, eqb}
 use lib.Bits.{bitXor}
 use lib.Count.{ones, trailingZeros}
-use Rattle.refusal.specs.Numbers.{overTen, bitNine, beyondCorrection}
+use Rattle.refusal.specs.Numbers.{overTen, bitNine, hopelessEven, hopelessOdd}
 use Rattle.words.specs.Words.{mostWord}
 use Rattle.timing.specs.declared.Correction.{Correction}
 use Rattle.timing.specs.declared.Correction.the-variants.{Clean, Repaired, Refused}
@@ -51,10 +51,15 @@ bitOf p q = trailingZeros 32 (bitXor p q) + 2
 abbrev pub byDistance : ℕ → Correction → Correction → Correction → Correction
 byDistance distance clean repaired others = cond (eqb distance 0) clean (cond (eqb distance 1) repaired others)
 
+-- "the two kinds of hopeless code": 8 with "an even number of ones", 14 with "an odd number"
+unfoldable pub hopelessOf : ℕ → ℕ
+unfolding ones
+hopelessOf p = cond (eqb (ones p % 2) 0) hopelessEven hopelessOdd
+
 -- what the legal patterns of FVH below n say of seven bits
 unfoldable pub correctionBelow : ℕ → ℕ → Correction
-unfolding legalOf distanceOf bitOf
-correctionBelow zero p = Refused beyondCorrection
+unfolding legalOf distanceOf bitOf hopelessOf
+correctionBelow zero p = Refused (hopelessOf p)
 correctionBelow (suc k) p =
     byDistance (distanceOf p (legalOf k)) (Clean k) (Repaired k (bitOf p (legalOf k))) (correctionBelow k p)
 
@@ -62,7 +67,7 @@ correctionBelow (suc k) p =
 abbrev pub patternCorrection : ℕ → Correction
 patternCorrection p = correctionBelow 8 p
 
--- the correction of a word: "5, 7, 8 in that order", or F, V, H and the repaired bit
+-- the correction of a word: "5, 7, 8 in that order", 14 where 8 stands, or F, V, H and the repaired bit
 unfoldable pub correctionOf : ℕ → Correction
 unfolding correctionBelow
 correctionOf word =

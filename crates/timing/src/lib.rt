@@ -1,7 +1,7 @@
 // Timing codes: the fourth word of F, V, H, and the correction of a fourth word that was read.
 // F, V, H are one number from 0 to 7: F counts 4, V counts 2, H counts 1.
 ghost use mathlib.Core.Path.{_≡_};
-ghost use Rattle.timing.specs.Code.{legalOf, fourthOf, patternCorrection, correctionOf};
+ghost use Rattle.timing.specs.Code.{legalOf, fourthOf, hopelessOf, patternCorrection, correctionOf};
 ghost use Rattle.timing.specs.Report.{codeReportOf};
 use refusal::Number;
 use words::MOST_WORD;
@@ -42,6 +42,16 @@ pub fn fourth(fvh: u32) -> u16
     (512 + 4 * legal(fvh)) as u16
 }
 
+// The refusal of seven bits that no legal pattern is near, by their number of ones.
+fn hopeless(pattern: u32) -> u32
+    ensures { λ r. ⌜ r ≡ hopelessOf pattern ⌝ }
+{
+    if u32::count_ones(pattern) % 2 == 0 {
+        return Number::HOPELESS_EVEN;
+    }
+    Number::HOPELESS_ODD
+}
+
 // What seven bits say: the legal pattern within one inverted bit, if there is one.
 fn correct_pattern(pattern: u32) -> Correction
     ensures { λ r. ⌜ r ≡ patternCorrection pattern ⌝ }
@@ -62,7 +72,7 @@ fn correct_pattern(pattern: u32) -> Correction
         }
     }
     Correction::Refused {
-        number: Number::BEYOND_CORRECTION,
+        number: hopeless(pattern),
     }
 }
 

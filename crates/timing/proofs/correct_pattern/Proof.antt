@@ -7,7 +7,7 @@ use lib.Bits.{bitXor}
 use lib.Count.{ones, trailingZeros, trailing-le}
 use Rattle.timing.specs.declared.Correction.{Correction}
 use Rattle.timing.specs.declared.Correction.the-variants.{Clean, Repaired, Refused}
-use Rattle.timing.specs.Code.{legalOf, distanceOf, bitOf, byDistance, correctionBelow}
+use Rattle.timing.specs.Code.{legalOf, distanceOf, bitOf, byDistance, hopelessOf, correctionBelow}
 use Rattle.timing.proofs.correct_pattern.Statement.{statement}
 use Rattle.timing.proofs.correct_pattern.Tie as tie
 
@@ -19,9 +19,9 @@ opened : (j p : ℕ) → correctionBelow (suc j) p ≡ turn j p (legalOf j) (one
 unfolding correctionBelow distanceOf bitOf turn
 opened j p = refl
 
-none-left : (p : ℕ) → correctionBelow 0 p ≡ (Refused 8)
+none-left : (p number : ℕ) → number ≡ hopelessOf p → Refused number ≡ correctionBelow 0 p
 unfolding correctionBelow
-none-left p = refl
+none-left p number e = ap Refused e
 
 module _ (p k q : ℕ) (above : 0 < k) (inv : correctionBelow k p ≡ correctionBelow 8 p) (is : q ≡ legalOf (k - 1)) where
   stepped : turn (k - 1) p q (ones (bitXor p q)) ≡ correctionBelow 8 p
@@ -79,11 +79,15 @@ loop-again c = (
       (c .before .if1 .left) (c .if2 .left),
 )
 
+hopeless-requires : tie.Need-hopeless-requires Inv-loop μ-loop
+hopeless-requires c κs = tt
+
 returns-3 : tie.Need-returns-3 Inv-loop μ-loop
 returns-3 c =
-    sym (none-left _) ∙ ap (λ (n : ℕ). correctionBelow n (c .before .before .args .pattern)) (omega arith) ∙ c .before .loop .inv .1
+    none-left _ _ (c .hopeless .ensures)
+    ∙ ap (λ (n : ℕ). correctionBelow n (c .before .before .before .args .pattern)) (omega arith) ∙ c .before .before .loop .inv .1
 
 pub correct-pattern-spec : {M : Type 1} → statement M
 correct-pattern-spec =
     tie.close
-    (tie.spec Inv-loop μ-loop loop-holds sub-fvh legal-requires returns add-t8 returns-2 loop-less loop-again returns-3)
+    (tie.spec Inv-loop μ-loop loop-holds sub-fvh legal-requires returns add-t8 returns-2 loop-less loop-again hopeless-requires returns-3)
