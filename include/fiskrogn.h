@@ -3,10 +3,10 @@
  *
  * Each call answers one 32-bit number. An answer of 65,536 or more is a refusal: its number times 65,536 plus its place. In a few words:
  * 1 the system, 2 the line number, 3 the byte count, 4 the walk's counts, 5 a word over 1023, 6 one of the first three words of a timing
- * code, 7 bit 9 of its fourth, 8 and 14 no legal code within one bit, 9 not the code due here, 10 no fill, 11 a reserved word for a sample or in
- * an ancillary packet, 15 the parity of a packet's header, 16 its checksum, 17 a packet that runs past its space. The place is 0 from
- * fiskrogn_correct and for 1 to 4; otherwise it is the word's offset in the line. fiskrogn(3) has the list, and docs/FORMAT.md of the
- * sources, "Refusal numbers", the one whole table.
+ * code, 7 bit 9 of its fourth, 8 no legal code within one bit, 9 not the code due here, 10 no fill, 11 a reserved word for a sample or in an
+ * ancillary packet, 14 no legal code within one bit, and an odd number of ones where 8 has an even one, 15 the parity of a packet's header,
+ * 16 its checksum, 17 a packet that runs past its space. The place is 0 from fiskrogn_correct and for 1 to 4; otherwise it is the word's
+ * offset in the line. fiskrogn(3) has the list, and docs/FORMAT.md of the sources, "Refusal numbers", the one whole table.
  */
 #ifndef FISKROGN_H
 #define FISKROGN_H
