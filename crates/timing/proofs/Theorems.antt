@@ -214,6 +214,11 @@ module _ (w : ℕ) (high : w / 512 ≡ 1) where
       picked false true q = absurd (omega arith)
       picked false false q = absurd (omega arith)
 
+-- There are words of both kinds: 632, and 904, which is 628 with all seven bits inverted.
+pub both-kinds-met : EvenNotLegal (sevenOf 632) × OddNoneWithinOne (sevenOf 904)
+unfolding correctionOf
+both-kinds-met = (only-even-is-8 632 refl refl, only-odd-is-14 904 refl refl)
+
 -- So at least two bits are wrong where a code is refused with 8, and with 14 at least three: every legal pattern is that far away.
 away-by-number : ℕ → ℕ → Bool
 away-by-number p k = implies (eqb (numberOf (patternCorrection p)) 14) (leb 3 (distanceOf p (legalOf k)))
