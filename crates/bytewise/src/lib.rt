@@ -1,4 +1,6 @@
 // Judging a line that is lent as bytes, two per word, low byte first.
+#![tactic(auto)]
+
 mod pass;
 
 ghost use Rattle.std.specs.Prelude.{◌≡◌, ◌*◌, ◌≤◌, length};

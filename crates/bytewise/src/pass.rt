@@ -88,7 +88,7 @@ fn all_fill(bytes: &[u8], from: usize, pairs: usize, even: u16, odd: u16) -> boo
 }
 
 // What the pass found: whether all is well, and then how many words are packets.
-#[derive(Drop)]
+#[derive(Clone, Copy)]
 pub(crate) struct Pass {
     pub well: bool,
     pub packets: PacketWords,
@@ -173,7 +173,7 @@ fn code_well(bytes: &[u8], from: usize, correction: Correction, fvh: u32) -> boo
 }
 
 // What correction finds in the fourth words of a line's EAV and SAV.
-#[derive(Drop)]
+#[derive(Clone, Copy)]
 pub(crate) struct Codes {
     eav: Correction,
     sav: Correction,

@@ -1,4 +1,6 @@
 // The packets file beside a programme: the heads of its entries, put and judged.
+#![tactic(auto)]
+
 ghost use Rattle.std.specs.Prelude.{◌≡◌, ◌+◌, ◌%◌, ◌<◌, ◌≤◌, length};
 ghost use Rattle.words.specs.Bytes.{word_of_bytes, number_from};
 ghost use Rattle.captions.specs.Entry.{head_length, most_space, ordinal_bound, entry_of, key_of, head_of, is_bad, head_judged, put_refusal, head_after};
@@ -20,7 +22,7 @@ pub const MOST_WORDS: usize = 1440;
 const ORDINAL_BOUND: u64 = 1 << 62;
 
 // What a head tells: a line's ordinal from 0, a space (0 between EAV and SAV, 1 the active part), and how many packet words follow.
-#[derive(Drop)]
+#[derive(Clone, Copy)]
 pub struct Entry {
     pub ordinal: u64,
     pub space: u32,
@@ -28,7 +30,7 @@ pub struct Entry {
 }
 
 // The answer to a head: its number, the entry, and the least key that may come next.
-#[derive(Drop)]
+#[derive(Clone, Copy)]
 pub struct Head {
     pub number: u32,
     pub entry: Entry,

@@ -1,4 +1,6 @@
 // What the capture process calls from C: include/fiskrogn.h tells it to a C programmer.
+#![tactic(auto)]
+
 ghost use Rattle.std.specs.Prelude.{◌≡◌};
 ghost use Rattle.capture.specs.Answer.{correct_answer, judge_answer};
 

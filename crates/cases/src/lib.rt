@@ -1,4 +1,6 @@
 // What the cases of the tests bring and what their answers give: numbers and records first, then slices, all low byte first.
+#![tactic(auto)]
+
 mod answer;
 mod numbers;
 mod payload;

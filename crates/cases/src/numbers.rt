@@ -7,7 +7,7 @@ use timing::{CodeReport, Report};
 pub(crate) const MOST_NUMBERS: usize = 17;
 
 // So many numbers, the first of the list. More than the list has room for are no answer.
-#[derive(Drop)]
+#[derive(Clone, Copy)]
 pub struct Numbers {
     pub(crate) count: usize,
     pub(crate) list: [u32; MOST_NUMBERS],

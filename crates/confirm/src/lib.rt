@@ -1,5 +1,7 @@
 // Confirming: reads a recording to its end or its first refusal. What it decides of a recording is in `confirmation`, and what each turn makes
 // of a read's count and bytes is in the contracts here; what comes of reading is up to the system.
+#![tactic(auto)]
+
 ghost use Rattle.std.specs.Prelude.{◌≡◌, ◌*◌, ◌-◌, ◌≤◌, length};
 ghost use Rattle.system.specs.declared.System.TheVariants.{Lines625};
 ghost use Rattle.system.specs.Figures.{line_length};
@@ -17,7 +19,7 @@ const LINES_HELD: usize = 48;
 const ROOM: usize = LINES_HELD * 2 * system::System625::LINE_LENGTH;
 
 // A run, where the bytes at..have of the buffer are read and not taken yet; whether reading is done, and whether a failed read ended it.
-#[derive(Drop)]
+#[derive(Clone, Copy)]
 struct Ready {
     run: Run,
     at: usize,

@@ -1,4 +1,6 @@
 // What the confirming program decides: a run over the bytes of a recording, however they arrive, and the sums over several.
+#![tactic(auto)]
+
 mod totals;
 
 ghost use Rattle.std.specs.Prelude.{◌≡◌, ◌+◌, ◌≤◌};
@@ -13,7 +15,7 @@ use words::word_of;
 const HEADER_LENGTH: usize = 4;
 
 // A run: its header's numbers, the walk over its lines, and the refusal that ended it, or 0.
-#[derive(Drop)]
+#[derive(Clone, Copy)]
 pub struct Run {
     pub system: u32,
     pub start: u32,
@@ -23,14 +25,14 @@ pub struct Run {
 }
 
 // What one call took of the bytes that lay ready: the run after it, and how many bytes were taken.
-#[derive(Drop)]
+#[derive(Clone, Copy)]
 pub struct Followed {
     pub run: Run,
     pub taken: usize,
 }
 
 // The numbers of the confirming program's five lines.
-#[derive(Drop)]
+#[derive(Clone, Copy)]
 pub struct Outcome {
     pub system: u32,
     pub start: u32,

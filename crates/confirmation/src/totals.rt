@@ -10,7 +10,7 @@ use system::{System525, System625};
 const UNIT: u64 = 5_670_000;
 
 // What is counted over recordings: how many they are, the lines accepted of either system, the repairs, and how many were refused or not read.
-#[derive(Drop)]
+#[derive(Clone, Copy)]
 pub struct Totals {
     pub files: u64,
     pub lines525: u64,

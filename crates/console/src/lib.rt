@@ -1,5 +1,7 @@
 // What the verbs share: reading a recording's start, filling a buffer, and saying how a run goes and how it ended. What comes of these
 // calls is up to the system, so no contract can determine it.
+#![tactic(auto)]
+
 mod header;
 mod name;
 mod refused;
@@ -21,7 +23,7 @@ use system::{System, System525, System625, Walk};
 const TURNS_A_REPORT: u64 = 4096;
 
 // How reading or writing ended. A failed read is never the end of the input. What Failed stands for was said where it happened.
-#[derive(Drop)]
+#[derive(Clone, Copy)]
 pub enum Status {
     Done,
     Refused,
@@ -58,7 +60,7 @@ impl Status {
 }
 
 // A run over a recording, and how it ended.
-#[derive(Drop)]
+#[derive(Clone, Copy)]
 pub struct Read {
     pub run: Run,
     pub status: Status,
@@ -103,7 +105,7 @@ fn filled_by(got: isize, have: usize, buffer: &[u8]) -> Filled
 }
 
 // Where bytes are read: where the last read ended, or from an offset of a file on.
-#[derive(Drop)]
+#[derive(Clone, Copy)]
 struct From {
     is_offset: bool,
     offset: u64,

@@ -1,4 +1,6 @@
 // Finished files: finishing a recording, and what the full check of a finished file decides.
+#![tactic(auto)]
+
 mod meeting;
 
 ghost use Rattle.std.specs.Prelude.{◌≡◌, ◌+◌, ◌/◌, ◌≤◌, ◌++◌, length, take, drop};
@@ -11,14 +13,14 @@ pub use meeting::{Meeting, differs_before, is_theirs};
 use std::num::wrapping_add_u32;
 
 // Lines on their way into a finished file, or under its check: the run over them, and how many of them were not clean.
-#[derive(Drop)]
+#[derive(Clone, Copy)]
 pub struct Finishing {
     pub run: Run,
     pub entries: u32,
 }
 
 // What one call made of the bytes that lay ready: the state after it, how many bytes were taken, and how many bytes of index were put.
-#[derive(Drop)]
+#[derive(Clone, Copy)]
 pub struct Made {
     pub finishing: Finishing,
     pub taken: usize,
@@ -26,7 +28,7 @@ pub struct Made {
 }
 
 // A line that was judged: the state after it, and how many bytes of index were put.
-#[derive(Drop)]
+#[derive(Clone, Copy)]
 struct Lined {
     finishing: Finishing,
     put: usize,

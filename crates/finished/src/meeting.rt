@@ -7,7 +7,7 @@ use confirmation::Run;
 use index::{ENTRY_LENGTH, Entry};
 
 // Whether the two differ, and the first ordinal where they do.
-#[derive(Drop)]
+#[derive(Clone, Copy)]
 pub struct Meeting {
     pub differs: bool,
     pub ordinal: u32,

@@ -1,12 +1,14 @@
 // A folder of numbered recordings, 0001.rec and on: one programme in a row of files. What comes of these calls is up to the system, so no
 // contract can determine it.
+#![tactic(auto)]
+
 ghost use Rattle.std.specs.Prelude.{◌≡◌, ◌≤◌, length};
 
 // The most recordings that four digits number.
 pub const MOST: u32 = 9999;
 
 // A file's descriptor, or -1, and how many bytes of the path that was lent hold its name.
-#[derive(Drop)]
+#[derive(Clone, Copy)]
 pub struct Opened {
     pub file: i32,
     pub length: usize,

@@ -10,7 +10,7 @@ use refusal::{Number, Refusal};
 pub const ENTRY_LENGTH: usize = 6;
 
 // A line that was not clean: its ordinal from 0, and how many of its codes were repaired.
-#[derive(Drop)]
+#[derive(Clone, Copy)]
 pub struct Entry {
     pub ordinal: u32,
     pub repairs: u32,

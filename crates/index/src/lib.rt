@@ -1,4 +1,6 @@
 // The index and the trailer that end a finished file, and what is answered from them: whether lines a to b are all clean.
+#![tactic(auto)]
+
 mod entry;
 mod question;
 mod trailer;
@@ -12,7 +14,7 @@ use refusal::Refusal;
 pub use trailer::{TRAILER_LENGTH, Trailer};
 
 // The answer to a question: its number and place, and whether the lines are all clean, which a refusal never says.
-#[derive(Drop)]
+#[derive(Clone, Copy)]
 pub struct Asked {
     pub number: u32,
     pub place: usize,

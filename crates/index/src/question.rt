@@ -11,7 +11,7 @@ use refusal::{Number, Refusal};
 // An index that is read as its bytes arrive: the system, the start line and the lines of the file, the lines asked for, the bytes that are
 // left, the next byte's place in its entry and the bytes before it, the least ordinal that may follow, whether an entry fell among the lines
 // asked for, and whether something is wrong.
-#[derive(Drop)]
+#[derive(Clone, Copy)]
 pub struct Question {
     pub system: u32,
     pub start: u32,

@@ -12,7 +12,7 @@ use system::Walk;
 pub const TRAILER_LENGTH: usize = 16;
 
 // Where the index starts, how many entries it has, and of how many lines.
-#[derive(Drop)]
+#[derive(Clone, Copy)]
 pub struct Trailer {
     pub offset: u64,
     pub entries: u32,

@@ -1,11 +1,13 @@
 // How bytes arrive: what a read tells by its count, and a buffer that is filled read by read.
+#![tactic(auto)]
+
 ghost use Rattle.std.specs.Prelude.{◌≡◌, length};
 ghost use Rattle.intake.specs.Arrival.{told_of, WithinRoom, so_far, filled_after};
 
 use std::num::wrapping_add_usize;
 
 // What a read told.
-#[derive(Drop)]
+#[derive(Clone, Copy)]
 pub enum Told {
     Failed,
     Ended,
@@ -32,7 +34,7 @@ pub fn tells(got: isize, room: &[u8]) -> Told
 }
 
 // How many bytes of a buffer were filled, and whether reading is done: the buffer is full, the input has ended, or a read failed.
-#[derive(Drop)]
+#[derive(Clone, Copy)]
 pub struct Filled {
     pub have: usize,
     pub done: bool,

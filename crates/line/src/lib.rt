@@ -1,4 +1,6 @@
 // What a line consists of: what is due at each of its offsets. Reader and writer share it.
+#![tactic(auto)]
+
 ghost use Rattle.std.specs.Prelude.{◌≡◌};
 ghost use Rattle.line.specs.Offsets.{code_at, fill_at, due_at};
 ghost use Rattle.line.specs.Lengths.{buffer_refusal};
@@ -18,7 +20,7 @@ pub const LEAST_ONES: u16 = 1020;
 pub const MOST_ZEROS: u16 = 3;
 
 // What is due at one offset: a word of a timing code, fill, or a sample.
-#[derive(Drop)]
+#[derive(Clone, Copy)]
 pub enum What {
     Ones,
     Zeros,

@@ -1,5 +1,7 @@
 // Cases of the calls on words: timing codes, systems and walks, what is due in a line, packets, judging, taking, writing, the serial form, and C's
 // two calls.
+#![tactic(auto)]
+
 mod coding;
 mod correction;
 mod dues;

@@ -9,7 +9,7 @@ use words::MOST_WORD;
 
 // What is due at one offset: this very word (of a packet's first three, or fill), an identifier, the count with so many user words of room, a
 // user word, or this checksum.
-#[derive(Drop)]
+#[derive(Clone, Copy)]
 pub enum What {
     Exactly { word: u16 },
     Header,

@@ -1,4 +1,6 @@
 // Ancillary packets in a space of a line: what is due at each of its offsets, the first fault, and how many of its words are packets.
+#![tactic(auto)]
+
 mod due;
 mod fault;
 mod pass;
@@ -12,7 +14,7 @@ use crate::scan::scan;
 pub use due::What;
 
 // The answer to a space: its first fault, or number 0 and how many of its words are packets.
-#[derive(Drop)]
+#[derive(Clone, Copy)]
 pub struct Space {
     pub number: u32,
     pub place: usize,

@@ -12,7 +12,7 @@ use crate::fault::{header_word, low, nine_bits};
 use words::{MOST_WORD, pair_of, reserved};
 
 // What the pass found: whether all is well, and then how many words are packets.
-#[derive(Drop)]
+#[derive(Clone, Copy)]
 pub(crate) struct Found {
     pub well: bool,
     pub packets: usize,

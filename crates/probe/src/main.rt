@@ -1,6 +1,8 @@
 // Every public call, asked by cases on standard input and answered on standard output, so that another program can compare.
 // A case is its kind and the size of its payload, both of 32 bits, then the payload. Answers follow one another with no header.
 // A case that is none ends the program.
+#![tactic(auto)]
+
 ghost use Rattle.std.specs.Prelude.{◌≡◌, ◌+◌, ◌≤◌, length};
 
 use cases::{count, number};
@@ -17,7 +19,7 @@ const BUFFER: usize = 524_288;
 const FIRST_ON_BYTES: u32 = 60;
 
 // The bytes at..have of the input are read and not answered yet; the first bytes of the output, `told` of them, are not written yet.
-#[derive(Drop)]
+#[derive(Clone, Copy)]
 struct Stream {
     at: usize,
     have: usize,

@@ -13,7 +13,7 @@ use refusal::{Number, Refusal};
 use system::{Judgement, PacketWords, Walk};
 
 // A run after a line's bytes, whether they gave a row, and how many of their words are packets.
-#[derive(Drop)]
+#[derive(Clone, Copy)]
 pub struct Extraction {
     pub run: Run,
     pub gives: bool,

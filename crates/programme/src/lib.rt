@@ -1,4 +1,6 @@
 // Programmes in and out of recordings, a line at a time: v210 rows into lines as bytes, and back.
+#![tactic(auto)]
+
 mod extractor;
 mod recorder;
 mod tape;

@@ -8,7 +8,7 @@ use crate::{ends_frame, ends_piece};
 use system::Walk;
 
 // A walk over the lines that are written, the most lines of a recording, where V of the first field falls, and the refusal that ended it, or 0.
-#[derive(Drop)]
+#[derive(Clone, Copy)]
 pub struct Tape {
     pub walk: Walk,
     pub most: u32,

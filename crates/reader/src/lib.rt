@@ -1,4 +1,6 @@
 // Reading lines at a walk: judging a line, taking its samples, and lending its active part and its packets.
+#![tactic(auto)]
+
 mod fault;
 mod pass;
 mod samples;

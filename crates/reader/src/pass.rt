@@ -18,21 +18,21 @@ use system::{Due, PacketWords};
 use words::reserved;
 
 // What the pass found: whether all is well, and then how many words are packets.
-#[derive(Drop)]
+#[derive(Clone, Copy)]
 struct Pass {
     well: bool,
     packets: PacketWords,
 }
 
 // The same of the active part alone.
-#[derive(Drop)]
+#[derive(Clone, Copy)]
 struct ActivePass {
     well: bool,
     packets: usize,
 }
 
 // What refuses a line's words, or number 0 and how many of them are packets.
-#[derive(Drop)]
+#[derive(Clone, Copy)]
 pub(crate) struct Search {
     pub refusal: Refusal,
     pub packets: PacketWords,

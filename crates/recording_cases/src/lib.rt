@@ -1,5 +1,7 @@
 // Cases of the calls on bytes: words as bytes, rows, recording and extracting lines, confirming, sums over recordings, how bytes arrive, the
 // packets file, and finished files.
+#![tactic(auto)]
+
 mod arrivals;
 mod bytes;
 mod extractors;

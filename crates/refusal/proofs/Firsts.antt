@@ -67,6 +67,7 @@ module _ (f : ℕ → ℕ) where
   at_from : (k i m p : ℕ) → p ≡ i + m → m < k → ((j : ℕ) → j < p → f j ≡ 0) → (f p ≡ 0 → ⊥)
       → first_from f i k ≡ record { number = f p; place = p }
   unfolding first_from
+  at_from zero i m p e l h b = absurd (omega arith)
   at_from (suc k) i zero p e l h b =
       let q : i ≡ p = omega arith in
       rw q (simp (ne_eqb _ _ b))

@@ -1,5 +1,7 @@
+#![tactic(auto)]
+
 // Every answer has a number and a place: number 0 is accepted, and place is 0 unless stated.
-#[derive(Drop)]
+#[derive(Clone, Copy)]
 pub struct Refusal {
     pub number: u32,
     pub place: usize,
@@ -14,7 +16,7 @@ impl Refusal {
 }
 
 // Document 01's numbers of refusals, and those that document 02 adds, in the words of their tables.
-#[derive(Drop)]
+#[derive(Clone, Copy)]
 pub struct Number;
 
 impl Number {

@@ -22,7 +22,7 @@ pub(crate) const ENTRIES_ROOM: usize = LINES_HELD * ENTRY_LENGTH;
 
 // Lines that are carried: the bytes at..have of the buffer are read and not taken yet, and so many are left of the input, where it has to have
 // them; whether that is done, and how it ended.
-#[derive(Drop)]
+#[derive(Clone, Copy)]
 pub(crate) struct Carried {
     pub(crate) finishing: Finishing,
     pub(crate) sink: Sink,

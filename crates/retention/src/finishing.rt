@@ -82,7 +82,7 @@ fn put_whole(finishing: Finishing, file: i32, beside: i32) -> Status {
 }
 
 // A file that was to be finished: its lines, and the exit status.
-#[derive(Drop)]
+#[derive(Clone, Copy)]
 struct Ended {
     finishing: Finishing,
     status: u32,

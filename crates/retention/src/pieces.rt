@@ -10,7 +10,7 @@ use intake::Filled;
 use std::num::{wrapping_add_u64, wrapping_sub_u64};
 
 // A finished file's trailer, and the question of its index, where they could be read.
-#[derive(Drop)]
+#[derive(Clone, Copy)]
 pub(crate) struct Parts {
     pub(crate) trailer: Trailer,
     pub(crate) question: Question,
@@ -18,7 +18,7 @@ pub(crate) struct Parts {
 }
 
 // A part of a file: the offset behind its last byte, and how many bytes it has.
-#[derive(Drop)]
+#[derive(Clone, Copy)]
 pub(crate) struct Part {
     pub(crate) file: i32,
     pub(crate) end: u64,
@@ -26,14 +26,14 @@ pub(crate) struct Part {
 }
 
 // A piece of a part, in the buffer: how many bytes it has, and how reading it ended.
-#[derive(Drop)]
+#[derive(Clone, Copy)]
 struct Piece {
     size: usize,
     status: Status,
 }
 
 // A question that was fed, as far as its index could be read.
-#[derive(Drop)]
+#[derive(Clone, Copy)]
 struct Fed {
     question: Question,
     status: Status,

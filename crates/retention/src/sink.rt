@@ -11,7 +11,7 @@ use std::num::wrapping_add_u64;
 
 // The file that is finished, with one beside it where entries wait until the lines have ended; or the file that is checked, with the place of
 // the next entry of its index, how many bytes are left of that, and how the entries met so far.
-#[derive(Drop)]
+#[derive(Clone, Copy)]
 pub(crate) struct Sink {
     pub(crate) checks: bool,
     file: i32,
@@ -22,7 +22,7 @@ pub(crate) struct Sink {
 }
 
 // What a sink took, and how that went.
-#[derive(Drop)]
+#[derive(Clone, Copy)]
 pub(crate) struct Taken {
     pub(crate) sink: Sink,
     pub(crate) status: Status,

@@ -9,7 +9,7 @@ use crate::held::Held;
 use crate::word::low_ten;
 
 // A channel word, and what is held after it.
-#[derive(Drop)]
+#[derive(Clone, Copy)]
 struct Coded {
     word: u16,
     after: Held,

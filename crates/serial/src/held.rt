@@ -7,7 +7,7 @@ ghost use Rattle.serial.specs.Held.{past_held, Bounded};
 use crate::State;
 
 // The last nine scrambled bits, the earliest lowest, and the last channel bit.
-#[derive(Drop)]
+#[derive(Clone, Copy)]
 pub(crate) struct Held {
     pub(crate) scrambled: u32,
     pub(crate) last: u32,

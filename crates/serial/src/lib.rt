@@ -1,4 +1,6 @@
 // The serial coder and decoder. They work on whole words: the bits of a word are told by shifts and exclusive ors.
+#![tactic(auto)]
+
 mod coder;
 mod decoder;
 mod held;
@@ -15,14 +17,14 @@ use refusal::{Number, Refusal};
 const MOST_WORDS: usize = 65536;
 
 // The last nine scrambled bits, the newest lowest, and the last channel bit.
-#[derive(Drop)]
+#[derive(Clone, Copy)]
 pub struct State {
     pub scrambled: u32,
     pub last: u32,
 }
 
 // What a call answers: 0 and the state after the words, or a refusal and the state as given.
-#[derive(Drop)]
+#[derive(Clone, Copy)]
 pub struct Answer {
     pub number: u32,
     pub place: usize,

@@ -1,4 +1,6 @@
 // The calls of reader, writer, serial and index for C, so that a benchmark can time them beside C's own. Each answers the call's number.
+#![tactic(auto)]
+
 ghost use Rattle.std.specs.Prelude.{◌≡◌, length};
 ghost use Rattle.system.specs.Walk.{fresh_walk};
 ghost use Rattle.reader.specs.Judge.{judged_of};

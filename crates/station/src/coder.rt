@@ -15,7 +15,7 @@ const PIECE: usize = 65536;
 const PIECES_A_REPORT: u64 = 64;
 
 // The state after so many words, whether the input is done, and how it ended: a refusal's number.
-#[derive(Drop)]
+#[derive(Clone, Copy)]
 struct Stream {
     state: State,
     words: u64,
@@ -88,7 +88,7 @@ fn turn(is_coding: bool, state: State, words: &[u16], out: &mut [u16]) -> Answer
 }
 
 // The state after the words that were good: all of them, or those before the first that is refused.
-#[derive(Drop)]
+#[derive(Clone, Copy)]
 struct Turned {
     state: State,
     good: usize,

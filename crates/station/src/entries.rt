@@ -12,7 +12,7 @@ use intake::Filled;
 use std::num::wrapping_add_u64;
 
 // What comes next in a packets file: nothing, an entry, bytes that are none, or a read that failed.
-#[derive(Drop)]
+#[derive(Clone, Copy)]
 pub(crate) enum Next {
     Nothing,
     Told(Entry),
@@ -22,7 +22,7 @@ pub(crate) enum Next {
 
 // A packets file where a line is awaited: its descriptor, the line's ordinal, what comes next in the file and at which byte, and the least key
 // that may come.
-#[derive(Drop)]
+#[derive(Clone, Copy)]
 pub(crate) struct Entries {
     pub(crate) file: Descriptor,
     pub(crate) ordinal: u64,
@@ -32,7 +32,7 @@ pub(crate) struct Entries {
 }
 
 // The entries behind what a space took: how many words, and whether all that had to be read was.
-#[derive(Drop)]
+#[derive(Clone, Copy)]
 pub(crate) struct Taken {
     pub(crate) entries: Entries,
     pub(crate) count: usize,

@@ -12,7 +12,7 @@ use libc::STDOUT_FILENO;
 use system::System625;
 
 // The confirming program's run over the lines, what is kept beside the rows, whether it is done, and how it ended.
-#[derive(Drop)]
+#[derive(Clone, Copy)]
 struct Extracting {
     run: Run,
     sidecar: Sidecar,
@@ -21,7 +21,7 @@ struct Extracting {
 }
 
 // What a recording came to, and what is kept beside its rows.
-#[derive(Drop)]
+#[derive(Clone, Copy)]
 pub struct Extracted {
     pub read: Read,
     pub sidecar: Sidecar,

@@ -1,5 +1,7 @@
 // The station's filters: recording, extracting and serial coding, from one descriptor to another. What each decides is in the library;
 // what comes of reading and writing is up to the system, so no contract can determine it.
+#![tactic(auto)]
+
 mod coder;
 mod entries;
 mod extractor;

@@ -10,7 +10,7 @@ use std::num::wrapping_add_u64;
 use system::{PacketWords, Walk};
 
 // The number of a file that is open.
-#[derive(Drop)]
+#[derive(Clone, Copy)]
 pub struct Descriptor {
     pub number: i32,
 }
@@ -19,7 +19,7 @@ pub struct Descriptor {
 const NO_FILE: Descriptor = Descriptor { number: -1 };
 
 // The packets file, or none; whether packets are listed, and rows then not written; the awaited line's ordinal; and how many lines had packets.
-#[derive(Drop)]
+#[derive(Clone, Copy)]
 pub struct Sidecar {
     file: Descriptor,
     pub(crate) listed: bool,

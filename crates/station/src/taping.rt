@@ -9,7 +9,7 @@ use libc::STDOUT_FILENO;
 use programme::Tape;
 
 // Where lines are written: a descriptor, and the number of its recording in the folder, or 0 for standard output.
-#[derive(Drop)]
+#[derive(Clone, Copy)]
 pub(crate) struct Output {
     pub(crate) file: i32,
     pub(crate) piece: u32,
@@ -21,7 +21,7 @@ pub(crate) const STANDARD: Output = Output {
 };
 
 // A tape and where it is written, the packets for it, whether it is done, and how it ended.
-#[derive(Drop)]
+#[derive(Clone, Copy)]
 pub(crate) struct Taping {
     pub(crate) tape: Tape,
     pub(crate) output: Output,

@@ -5,14 +5,14 @@ ghost use Rattle.system.specs.Due.{flag, due_with, due_of, flags_of};
 use crate::System;
 
 // Fill by offset in the line: a word for even and a word for odd offsets.
-#[derive(Drop)]
+#[derive(Clone, Copy)]
 pub struct FillWords {
     pub even: u16,
     pub odd: u16,
 }
 
 // What is due in a line. With V = 1 its active part is fill.
-#[derive(Drop)]
+#[derive(Clone, Copy)]
 pub struct Due {
     pub system: System,
     pub f: bool,

@@ -1,4 +1,6 @@
 // The two systems with their figures, what is due in a line of theirs, and the walk over consecutive lines of one of them.
+#![tactic(auto)]
+
 mod due;
 mod walk;
 
@@ -12,14 +14,14 @@ use refusal::{Number, Refusal};
 pub use walk::{Fresh, Judgement, PacketWords, Walk, fresh_walk, repairs};
 
 // Document 01's two systems.
-#[derive(Drop)]
+#[derive(Clone, Copy)]
 pub enum System {
     Lines525,
     Lines625,
 }
 
 // The figures of the 525-line system: words in a line, where SAV starts, lines.
-#[derive(Drop)]
+#[derive(Clone, Copy)]
 pub struct System525;
 
 impl System525 {
@@ -111,7 +113,7 @@ impl System525 {
 }
 
 // The figures of the 625-line system.
-#[derive(Drop)]
+#[derive(Clone, Copy)]
 pub struct System625;
 
 impl System625 {

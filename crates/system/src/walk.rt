@@ -13,7 +13,7 @@ use timing::{CodeReport, Correction, Report, correct};
 
 // Where a reader of consecutive lines stands: the system's number, the awaited line, what was counted so far, whether V was 0 in the last
 // accepted line, 0 for no, else yes, and how many of the repairs are of this field.
-#[derive(Drop)]
+#[derive(Clone, Copy)]
 pub struct Walk {
     pub system: u32,
     pub line: u32,
@@ -24,7 +24,7 @@ pub struct Walk {
 }
 
 // The answer to a fresh walk: a refusal returns a walk all zero.
-#[derive(Drop)]
+#[derive(Clone, Copy)]
 pub struct Fresh {
     pub number: u32,
     pub place: usize,
@@ -225,7 +225,7 @@ impl Walk {
 }
 
 // How many words are packets: of the space between EAV and SAV, and of the active part.
-#[derive(Drop)]
+#[derive(Clone, Copy)]
 pub struct PacketWords {
     pub between: usize,
     pub active: usize,
@@ -239,7 +239,7 @@ impl PacketWords {
 }
 
 // The answer to a line: its number and place, what is told of its two codes, the walk after it, and its packets.
-#[derive(Drop)]
+#[derive(Clone, Copy)]
 pub struct Judgement {
     pub number: u32,
     pub place: usize,

@@ -1,5 +1,7 @@
 // Timing codes: the fourth word of F, V, H, and the correction of a fourth word that was read.
 // F, V, H are one number from 0 to 7: F counts 4, V counts 2, H counts 1.
+#![tactic(auto)]
+
 ghost use Rattle.std.specs.Prelude.{◌≡◌, ◌+◌, ◌*◌, ◌/◌, ◌%◌, ◌^◌};
 ghost use Rattle.timing.specs.Code.{legal_of, fourth_of, seven_of, pattern_correction, correction_of};
 ghost use Rattle.timing.specs.Report.{Values, values_of, code_report_of};
@@ -8,7 +10,7 @@ use refusal::Number;
 use words::MOST_WORD;
 
 // What correction finds. A bit is told by its number in the word, 2 to 8.
-#[derive(Drop)]
+#[derive(Clone, Copy)]
 pub enum Correction {
     Clean { fvh: u32 },
     Repaired { fvh: u32, bit: u32 },
@@ -16,14 +18,14 @@ pub enum Correction {
 }
 
 // What the reader tells of one code.
-#[derive(Drop)]
+#[derive(Clone, Copy)]
 pub enum CodeReport {
     Clean,
     Repaired { bit: u32 },
 }
 
 // What the reader tells of a line: both codes in one record.
-#[derive(Drop)]
+#[derive(Clone, Copy)]
 pub struct Report {
     pub eav: CodeReport,
     pub sav: CodeReport,

@@ -1,4 +1,6 @@
 // Rows of v210: three 10-bit samples to a 32-bit word, lowest bits first, low byte first, in the order of the active part.
+#![tactic(auto)]
+
 ghost use Rattle.std.specs.Prelude.{◌≡◌, ℕ, ◌+◌, ◌*◌, ◌/◌, ◌%◌, ◌<◌, ◌≤◌, length, get_or};
 ghost use Rattle.line.specs.Samples.{active_length};
 ghost use Rattle.v210.specs.Row.{row_length, row_word, unpacked_of, packed_of, spare_refusal, unpack_refusal, pack_refusal, samples_after, row_after};

@@ -2,7 +2,7 @@
 use crate::arguments::same;
 use libc::STDOUT_FILENO;
 
-#[derive(Drop)]
+#[derive(Clone, Copy)]
 pub(crate) enum Verb {
     Confirm,
     Record,

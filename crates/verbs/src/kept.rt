@@ -7,7 +7,7 @@ use retention::File;
 use std::num::wrapping_add_usize;
 
 // The numbers behind a file's name: its system and start line, and where lines are asked for, the first and the last.
-#[derive(Drop)]
+#[derive(Clone, Copy)]
 struct Numbers {
     system: u32,
     start: u32,

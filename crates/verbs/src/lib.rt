@@ -1,4 +1,6 @@
 // The command's verbs, and what is said of their use. What comes of them is up to the system, so no contract can determine it.
+#![tactic(auto)]
+
 mod arguments;
 mod beside;
 mod filters;

@@ -4,7 +4,7 @@ use crate::wrong;
 use std::num::wrapping_add_usize;
 
 // Which arguments the options name, or 0, and where the options end. Those of `record` are more.
-#[derive(Drop)]
+#[derive(Clone, Copy)]
 pub(crate) struct Options {
     pub(crate) is_recording: bool,
     pub(crate) folder: usize,

@@ -4,7 +4,7 @@ use console::{Read, Status};
 use station::{Extracted, Sidecar};
 
 // What is done with recordings: confirming or extracting, and the descriptor for their lines.
-#[derive(Drop)]
+#[derive(Clone, Copy)]
 pub(crate) struct Task {
     pub(crate) is_extracting: bool,
     pub(crate) rows: i32,
@@ -12,7 +12,7 @@ pub(crate) struct Task {
 
 // The sums and the worst status so far, the run before, what is kept beside the rows, whether there is more to do, and whether the lines could
 // be written.
-#[derive(Drop)]
+#[derive(Clone, Copy)]
 pub(crate) struct Tally {
     pub(crate) totals: Totals,
     pub(crate) status: u32,

@@ -1,4 +1,6 @@
 // Words: ten bits, 0 to 1023, held in 16; and words as bytes, two per word, low byte first.
+#![tactic(auto)]
+
 ghost use Rattle.std.specs.Prelude.{◌≡◌, ◌||◌, ℕ, ◌+◌, ◌*◌, ◌/◌, ◌%◌, ◌<◌, ◌≤◌, ltb, length, get_or};
 ghost use Rattle.refusal.specs.Answer.{written_by};
 ghost use Rattle.words.specs.Words.{tab, least_sample, most_sample, over_refusal};

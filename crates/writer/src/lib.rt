@@ -1,4 +1,6 @@
 // Writing a line by what is due in it: of samples, or of a whole active part, and of ready packet words.
+#![tactic(auto)]
+
 mod part;
 mod ready;
 
