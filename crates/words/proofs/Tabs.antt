@@ -18,6 +18,7 @@ module _ (f : ℕ → ℕ) where
 
   get_d_from : (n i j : ℕ) → j < n → get_or (tab_from f i n) j 0 ≡ f (i + j)
   unfolding tab_from
+  get_d_from zero i j l = elim l [ ]
   get_d_from (suc n) i zero l = ap f (omega arith)
   get_d_from (suc n) i (suc j) l = get_d_from n (suc i) j (omega arith) ∙ ap f (omega arith)
 

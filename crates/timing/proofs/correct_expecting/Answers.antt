@@ -8,8 +8,7 @@ use lib.Count.{ones, count_trailing_zeros, trailing_le}
 use Rattle.timing.specs.declared.Correction.TheVariants.{Clean, Repaired}
 use Rattle.timing.specs.Code.{legal_of, seven_of, distance_of, bit_of, correction_of}
 use Rattle.timing.proofs.Laws.{over_is_5, clear_is_7, at_distance}
-use Rattle.timing.proofs.correct_expecting.Statement.{statement}
-use Rattle.timing.proofs.correct_expecting.Tie as tie
+use Rattle.timing.proofs.correct_expecting.Goals as goal
 
 -- the word w, of ten bits with bit 9 set, and the seven bits q of the F, V, H expected
 module _ (w k q : ℕ) (high : w / 512 ≡ 1) (below : k < 8) (is : q ≡ legal_of k) where
@@ -23,44 +22,18 @@ module _ (w k q : ℕ) (high : w / 512 ≡ 1) (below : k < 8) (is : q ≡ legal_
       ap (λ (m : ℕ). Repaired k (bit_of (seven_of w) m)) is
       ∙ sym (at_distance k w 1 below high (ap (λ (m : ℕ). distance_of (seven_of w) m) (sym is) ∙ e) (omega arith))
 
-returns : tie.Need-returns
-returns c = sym (over_is_5 _ c.if1.true)
+pub returns-then-word-gt-MOST_WORD : goal.returns-then-word-gt-MOST_WORD
+returns-then-word-gt-MOST_WORD c = sym (over_is_5 _ c.if-word-gt-MOST_WORD.true)
 
-returns-2 : tie.Need-returns-2
-returns-2 c = sym (clear_is_7 _ c.if2.true)
+pub returns-then-word-lt512 : goal.returns-then-word-lt512
+returns-then-word-lt512 c = sym (clear_is_7 _ c.if-word-lt512.true)
 
-cast-difference : tie.Need-overflow-cast-difference
-cast-difference c = search rules
+pub returns-then-inverted-eq0 : goal.returns-then-inverted-eq0
+returns-then-inverted-eq0 c = clean _ _ _ (omega arith) (omega arith) c.legal.ensures c.if-inverted-eq0.true
 
-legal-requires : tie.Need-legal-requires
-legal-requires c κs = search rules
+pub overflow_add-result : goal.overflow_add-result
+overflow_add-result c =
+    omega (arith, trailing_le 32 (bit_xor (seven_of c.args.word) c.legal.result))
 
-returns-3 : tie.Need-returns-3
-returns-3 c = clean _ _ _ (omega arith) (omega arith) c.before.legal.ensures c.if3.true
-
-add-t12 : tie.Need-overflow-add-t12
-add-t12 c =
-    omega (arith, trailing_le 32 (bit_xor (seven_of c.before.before.before.before.before.args.word) c.before.before.legal.result))
-
-returns-4 : tie.Need-returns-4
-returns-4 c = repaired _ _ _ (omega arith) (omega arith) c.before.before.legal.ensures c.if4.true
-
-correct-requires : tie.Need-correct-requires
-correct-requires c κs = search rules
-
-returns-5 : tie.Need-returns-5
-returns-5 c = search rules
-
-pub correct-expecting-spec : {M : Type 1} → statement M
-correct-expecting-spec =
-    tie.close
-    (tie.spec
-    returns
-    returns-2
-    cast-difference
-    legal-requires
-    returns-3
-    add-t12
-    returns-4
-    correct-requires
-    returns-5)
+pub returns-then-inverted-eq1 : goal.returns-then-inverted-eq1
+returns-then-inverted-eq1 c = repaired _ _ _ (omega arith) (omega arith) c.legal.ensures c.if-inverted-eq1.true

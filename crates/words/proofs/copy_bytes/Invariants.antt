@@ -1,0 +1,19 @@
+-- `words::copy_bytes` meets its contract. The loop's invariant: each byte passed is that of its word. Assumes nothing.
+use borrow.Author.Rules.{rules}
+use mathlib.Core.Path.{◌≡◌, refl, sym, ◌∙◌}
+use Prim.Native.Nat.{ℕ, ◌+◌, ◌-◌, ◌*◌, ◌<◌, ◌≤◌}
+use native.Mathlib.Omega.{arith}
+use lib.ListN.{length, get_or, set, length-set}
+use Rattle.words.proofs.Tabs.{is_tab}
+use Rattle.words.proofs.Stores.{store_more}
+use Rattle.words.specs.Bytes.{byte_of_words, bytes_of}
+use Rattle.words.proofs.Bytes.{low_of_words, high_of_words}
+use Rattle.words.proofs.copy_bytes.Given as goal
+
+abbrev pub invariant-loop-k : goal.invariant-loop-k
+invariant-loop-k l =
+    (l.k ≤ l.k-end) × (l.k-end ≡ length l.words) × (length l.bytes ≡ 2 * length l.words)
+    × ((j : ℕ) → j < 2 * l.k → get_or l.bytes j 0 ≡ byte_of_words l.words j)
+
+abbrev pub decreases-loop-k : goal.decreases-loop-k
+decreases-loop-k l = l.k-end - l.k
