@@ -17,8 +17,7 @@ use Rattle.system.proofs.Laws.{line_is_parts, due_system, accepted_stood}
 use Rattle.line.specs.Fault.{word_refusal, counts_of}
 use Rattle.reader.specs.Judge.{line_refusal, report_of, judged_of}
 use Rattle.reader.proofs.Judged.{line_standing, line_words_are, judged_refused, judged_moved}
-use Rattle.reader.proofs.judge.Statement.{statement}
-use Rattle.reader.proofs.judge.Tie as tie
+use Rattle.reader.proofs.judge.Goals as goal
 
 -- what the calls answered: what refuses the line before its words are looked at, what is due in it, and its first fault
 module _ (w : Walk) (words : List ℕ) (size : ℕ) (is-size : size ≡ line_words w) (r : Refusal)
@@ -60,85 +59,40 @@ module _ (w : Walk) (words : List ℕ) (size : ℕ) (is-size : size ≡ line_wor
             ap₂ (moved_at w d) is-report is-counted ∙ ap (λ (x : Due). moved_at w x (report_of x words) (counts_of x words)) is_due
             ∙ sym (judged_moved (length words) (line_words w) w words (same_number fault_due ∙ well))
 
-line-words-requires : tie.Need-line-words-requires
-line-words-requires c κs = tt
-
-standing-requires : tie.Need-standing-requires
-standing-requires c κs = tt
-
-refused-requires : tie.Need-refused-requires
-refused-requires c κs = tt
-
-returns : tie.Need-returns
-returns c =
-    let standing = c.before.before.before in
-    let a = standing.before.before.before.args in
+pub returns-then-standing-ne0 : goal.returns-then-standing-ne0
+returns-then-standing-ne0 c =
+    let a = c.args in
     c.refused.ensures
-    ∙ refused_standing a.walk a.words.now _ standing.before.line-words.ensures _ standing.standing.ensures c.before.if1.true
+    ∙ refused_standing a.walk a.words.now _ c.line_words.ensures _ c.standing-standing.ensures c.if-standing-ne0.true
 
-shared-slice-read-due : tie.Need-shared-slice-read-due
-shared-slice-read-due c =
-    let standing = c.before.before.before in
-    let a = standing.before.before.before.args in
-    long a.walk a.words.now _ standing.before.line-words.ensures _ standing.standing.ensures c.before.if1.false
+pub bounds-words-3 : goal.bounds-words-3
+bounds-words-3 c =
+    let a = c.args in
+    long a.walk a.words.now _ c.line_words.ensures _ c.standing-standing.ensures c.if-standing-ne0.false
 
-due-requires : tie.Need-due-requires
-due-requires c κs = tt
+pub first_fault-search-requires : goal.first_fault-search-requires
+first_fault-search-requires c =
+    let a = c.args in
+    of_system a.walk a.words.now _ c.line_words.ensures _ c.standing-standing.ensures
+    c.if-standing-ne0.false _ c.due-due.ensures
 
-first-fault-requires : tie.Need-first-fault-requires
-first-fault-requires c κs =
-    let standing = c.before.before.before.before in
-    let a = standing.before.before.before.args in
-    of_system a.walk a.words.now _ standing.before.line-words.ensures _ standing.standing.ensures
-    c.before.before.if1.false _ c.due.ensures
+pub returns-then-refusal-ne0 : goal.returns-then-refusal-ne0
+returns-then-refusal-ne0 c =
+    let a = c.args in
+    c.refused-then-refusal-ne0.ensures
+    ∙ refused_words a.walk a.words.now _ c.line_words.ensures _ c.standing-standing.ensures
+    c.if-standing-ne0.false _ c.due-due.ensures _ c.first_fault-search.ensures.refusal c.if-refusal-ne0.true
 
-refused-requires-2 : tie.Need-refused-requires-2
-refused-requires-2 c κs = tt
+pub report-requires : goal.report-requires
+report-requires c =
+    let a = c.args in
+    of_system a.walk a.words.now _ c.line_words.ensures _ c.standing-standing.ensures
+    c.if-standing-ne0.false _ c.due-due.ensures
 
-returns-2 : tie.Need-returns-2
-returns-2 c =
-    let looked = c.before.before.before.before in
-    let standing = looked.before.before.before.before.before in
-    let a = standing.before.before.before.args in
-    c.refused2.ensures
-    ∙ refused_words a.walk a.words.now _ standing.before.line-words.ensures _ standing.standing.ensures
-    looked.before.before.before.if1.false _ looked.before.due.ensures _ looked.first-fault.ensures.0 c.before.if2.true
-
-report-requires : tie.Need-report-requires
-report-requires c κs =
-    let looked = c.before.before.before.before in
-    let standing = looked.before.before.before.before.before in
-    let a = standing.before.before.before.args in
-    of_system a.walk a.words.now _ standing.before.line-words.ensures _ standing.standing.ensures
-    looked.before.before.before.if1.false _ looked.before.due.ensures
-
-accepted-requires : tie.Need-accepted-requires
-accepted-requires c κs = tt
-
-returns-3 : tie.Need-returns-3
-returns-3 c =
-    let well = c.before.before.before in
-    let looked = well.before.before.before in
-    let standing = looked.before.before.before.before.before in
-    let a = standing.before.before.before.args in
+pub returns : goal.returns
+returns c =
+    let a = c.args in
     c.accepted.ensures
-    ∙ accepted_words a.walk a.words.now _ standing.before.line-words.ensures _ standing.standing.ensures
-    looked.before.before.before.if1.false _ looked.before.due.ensures _ looked.first-fault.ensures.0 _ _ well.if2.false c.before.report.ensures
-    (looked.first-fault.ensures.1 well.if2.false)
-
-pub judge-spec : {M : Type 1} → statement M
-judge-spec =
-    tie.close
-    (tie.spec
-    line-words-requires
-    standing-requires
-    refused-requires
-    returns
-    shared-slice-read-due
-    due-requires
-    first-fault-requires
-    refused-requires-2
-    returns-2
-    report-requires
-    accepted-requires
-    returns-3)
+    ∙ accepted_words a.walk a.words.now _ c.line_words.ensures _ c.standing-standing.ensures
+    c.if-standing-ne0.false _ c.due-due.ensures _ c.first_fault-search.ensures.refusal _ _ c.if-refusal-ne0.false c.report.ensures
+    (c.first_fault-search.ensures.packets c.if-refusal-ne0.false)

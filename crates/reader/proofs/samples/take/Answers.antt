@@ -18,8 +18,7 @@ use Rattle.line.specs.Fit.{Measured}
 use Rattle.reader.specs.Take.{take_refusal, taken_of}
 use Rattle.reader.proofs.Judged.{active_fits}
 use Rattle.reader.proofs.Taken.{into_refused, into_blank, into_picture, take_well, take_measured}
-use Rattle.reader.proofs.samples.take.Statement.{statement}
-use Rattle.reader.proofs.samples.take.Tie as tie
+use Rattle.reader.proofs.samples.take.Goals as goal
 
 -- what refuses taking
 module _ (w : Walk) (words : List ℕ) (b : Samples) (r : Refusal) (is-refusal : r ≡ take_refusal w words b) where
@@ -59,83 +58,42 @@ module _ (w : Walk) (words : List ℕ) (b : Samples) (r : Refusal) (is-refusal :
             ap (λ (k : ℕ). samples_from k words) start_is ∙ ap (λ (x : Due). samples_of x words) is_due
             ∙ sym (into_picture (take_refusal w words b) (due_in w words) words b none_refuses (v_due false v))
 
-take-refusal-requires : tie.Need-take-refusal-requires
-take-refusal-requires c κs = search rules
-
-returns : tie.Need-returns
-returns c =
-    let judged = c.before.before in
-    let a = judged.before.before.before.before.before.args in
+pub returns-then-refusal-ne0 : goal.returns-then-refusal-ne0
+returns-then-refusal-ne0 c =
+    let a = c.args in
     let b : Samples = record { y = a.y.now; cb = a.cb.now; cr = a.cr.now } in
-    let e = judged.take-refusal.ensures in
-    let kept = refused a.walk a.words.now b _ e c.if1.true in
-    (e, (ap (λ (s : Samples). s.y) kept, (ap (λ (s : Samples). s.cb) kept, ap (λ (s : Samples). s.cr) kept)))
+    let e = c.take_refusal-refusal.ensures in
+    let kept = refused a.walk a.words.now b _ e c.if-refusal-ne0.true in
+    record { answer = e; ys = ap (λ (s : Samples). s.y) kept; cbs = ap (λ (s : Samples). s.cb) kept; crs = ap (λ (s : Samples). s.cr) kept }
 
-shared-slice-read-due : tie.Need-shared-slice-read-due
-shared-slice-read-due c =
-    let judged = c.before.before.before in
-    let a = judged.before.before.before.before.before.args in
+pub bounds-words-3 : goal.bounds-words-3
+bounds-words-3 c =
+    let a = c.args in
     let b : Samples = record { y = a.y.now; cb = a.cb.now; cr = a.cr.now } in
-    long a.walk a.words.now b _ judged.take-refusal.ensures c.before.if1.false
+    long a.walk a.words.now b _ c.take_refusal-refusal.ensures c.if-refusal-ne0.false
 
-due-requires : tie.Need-due-requires
-due-requires c κs = search rules
-
-returns-2 : tie.Need-returns-2
-returns-2 c =
-    let judged = c.before.before.before.before.before in
-    let a = judged.before.before.before.before.before.args in
+pub returns-then-due : goal.returns-then-due
+returns-then-due c =
+    let a = c.args in
     let b : Samples = record { y = a.y.now; cb = a.cb.now; cr = a.cr.now } in
-    let e = judged.take-refusal.ensures in
-    let kept = blank a.walk a.words.now b _ e c.before.before.before.if1.false _ c.before.due.ensures c.if2.true in
-    (e, (ap (λ (s : Samples). s.y) kept, (ap (λ (s : Samples). s.cb) kept, ap (λ (s : Samples). s.cr) kept)))
+    let e = c.take_refusal-refusal.ensures in
+    let kept = blank a.walk a.words.now b _ e c.if-refusal-ne0.false _ c.due-due.ensures c.if-due.true in
+    record { answer = e; ys = ap (λ (s : Samples). s.y) kept; cbs = ap (λ (s : Samples). s.cb) kept; crs = ap (λ (s : Samples). s.cr) kept }
 
-active-offset-requires : tie.Need-active-offset-requires
-active-offset-requires c κs = search rules
-
-copy-samples-requires : tie.Need-copy-samples-requires
-copy-samples-requires c κs =
-    let judged = c.before.before.before.before.before.before.before.before.before in
-    let a = judged.before.before.before.before.before.args in
+pub copy_samples-requires : goal.copy_samples-requires
+copy_samples-requires c =
+    let a = c.args in
     let b : Samples = record { y = a.y.now; cb = a.cb.now; cr = a.cr.now } in
-    let e = judged.take-refusal.ensures in
-    let z = c.before.before.before.before.before.before.before.if1.false in
+    let e = c.take_refusal-refusal.ensures in
+    let z = c.if-refusal-ne0.false in
     let m = measured a.walk a.words.now b _ e z in
-    (fits a.walk a.words.now b _ e z _ c.before.before.before.before.before.due.ensures _ c.before.before.before.active-offset.ensures, m.y, m.cb, m.cr)
+    (fits a.walk a.words.now b _ e z _ c.due-due.ensures _ c.active_offset.ensures, m.y, m.cb, m.cr)
 
-same_length : tie.Need-same-length
-same_length c = search rules
-
-same-length-2 : tie.Need-same-length-2
-same-length-2 c = search rules
-
-same-length-3 : tie.Need-same-length-3
-same-length-3 c = search rules
-
-returns-3 : tie.Need-returns-3
-returns-3 c =
-    let copied = c.before.before.before.before.before.before in
-    let offset = copied.before.before.before.before in
-    let judged = offset.before.before.before.before.before.before in
-    let a = judged.before.before.before.before.before.args in
+pub returns : goal.returns
+returns c =
+    let a = c.args in
     let b : Samples = record { y = a.y.now; cb = a.cb.now; cr = a.cr.now } in
-    let e = judged.take-refusal.ensures in
-    let got = copied.copy-samples.ensures in
-    let holds = picture a.walk a.words.now b _ e offset.before.before.before.before.if1.false _ offset.before.before.due.ensures _ offset.active-offset.ensures offset.before.if2.false in
-    (e, (got.0 ∙ ap (λ (s : Samples). s.y) holds, (got.1.0 ∙ ap (λ (s : Samples). s.cb) holds, got.1.1 ∙ ap (λ (s : Samples). s.cr) holds)))
-
-pub take_spec : {M : Type 1} → statement M
-take_spec =
-    tie.close
-    (tie.spec
-    take-refusal-requires
-    returns
-    shared-slice-read-due
-    due-requires
-    returns-2
-    active-offset-requires
-    copy-samples-requires
-    same_length
-    same-length-2
-    same-length-3
-    returns-3)
+    let e = c.take_refusal-refusal.ensures in
+    let got = c.copy_samples.ensures in
+    let holds = picture a.walk a.words.now b _ e c.if-refusal-ne0.false _ c.due-due.ensures _ c.active_offset.ensures c.if-due.false in
+    record { answer = e; ys = got.ys ∙ ap (λ (s : Samples). s.y) holds; cbs = got.cbs ∙ ap (λ (s : Samples). s.cb) holds; crs = got.crs ∙ ap (λ (s : Samples). s.cr) holds }

@@ -11,8 +11,7 @@ use Rattle.system.specs.declared.walk.Judgement.{Judgement}
 use Rattle.reader.specs.Judge.{judge_refusal, judged_of}
 use Rattle.reader.proofs.Taken.{told}
 use Rattle.reader.proofs.Theorems.{judged_number}
-use Rattle.reader.proofs.samples.take_refusal.Statement.{statement}
-use Rattle.reader.proofs.samples.take_refusal.Tie as tie
+use Rattle.reader.proofs.samples.take_refusal.Goals as goal
 
 -- what the judge answered, and what is wrong with the buffers
 module _ (w : Walk) (words : List ℕ) (j : Judgement) (is-judged : j ≡ judged_of w words) (r buffers : Refusal) (is-buffers : r ≡ buffers) where
@@ -25,23 +24,12 @@ module _ (w : Walk) (words : List ℕ) (j : Judgement) (is-judged : j ≡ judged
   buffers_next : j.number ≡ 0 → r ≡ or_else (judge_refusal w words) buffers
   buffers_next z = is-buffers ∙ sym (or_else_accepted (told j) buffers z) ∙ ap (λ (x : Refusal). or_else x buffers) judge_told
 
-judge-requires : tie.Need-judge-requires
-judge-requires c κs = search rules
+pub returns-then-judgement-ne0 : goal.returns-then-judgement-ne0
+returns-then-judgement-ne0 c =
+    let a = c.args in
+    judge_first a.walk a.words.now _ c.judge-judgement.ensures _ _ c.buffer_refusal-buffers.ensures c.if-judgement-ne0.true
 
-buffer-refusal-requires : tie.Need-buffer-refusal-requires
-buffer-refusal-requires c κs = search rules
-
-returns : tie.Need-returns
+pub returns : goal.returns
 returns c =
-    let measured = c.before.before in
-    let a = measured.before.before.before.args in
-    judge_first a.walk a.words.now _ measured.before.judge.ensures _ _ measured.buffer-refusal.ensures c.if1.true
-
-returns-2 : tie.Need-returns-2
-returns-2 c =
-    let measured = c.before.before in
-    let a = measured.before.before.before.args in
-    buffers_next a.walk a.words.now _ measured.before.judge.ensures _ _ measured.buffer-refusal.ensures c.if1.false
-
-pub take-refusal-spec : {M : Type 1} → statement M
-take-refusal-spec = tie.close (tie.spec judge-requires buffer-refusal-requires returns returns-2)
+    let a = c.args in
+    buffers_next a.walk a.words.now _ c.judge-judgement.ensures _ _ c.buffer_refusal-buffers.ensures c.if-judgement-ne0.false
