@@ -1,10 +1,8 @@
 -- `index::question::Question::begin` meets its contract: the trailer tells where to begin, and whether it fits. Assumes nothing.
-use borrow.Author.Rules.{rules}
 use Prim.Native.Nat.{ℕ, ◌*◌}
 use mathlib.Core.Path.{◌≡◌, sym, ap, ◌∙◌}
 use mathlib.Core.List.{List}
 use mathlib.Core.Bool.{Bool, ◌&&◌}
-use mathlib.Core.Logic.{⊎_elim}
 use native.Mathlib.Omega.{arith}
 use lib.Dec.{eqb}
 use lib.ListN.{length}
@@ -15,8 +13,8 @@ use Rattle.system.proofs.Laws.{longest}
 use Rattle.index.specs.declared.trailer.Trailer.{Trailer}
 use Rattle.index.specs.Parts.{trailer_length, trailer_of, line_size}
 use Rattle.index.specs.Asking.{trailer_fits, begun_of}
-use Rattle.index.proofs.question.Question.begin.Statement.{statement}
-use Rattle.index.proofs.question.Question.begin.Tie as tie
+use Rattle.index.proofs.question.Question.begin.Goals as goal
+use Rattle.index.proofs.question.Question.begin.Goals.{then-trailer-eq-TRAILER_LENGTH, else-trailer-eq-TRAILER_LENGTH}
 
 module _ (system : ℕ) (trailer : List ℕ) (file : ℕ) where
   abbrev Due : Bool
@@ -32,53 +30,19 @@ module _ (system : ℕ) (trailer : List ℕ) (file : ℕ) where
   short : (fits : Bool) → (length trailer ≡ trailer_length → ⊥) → fits ≡ eqb (length trailer) trailer_length → fits ≡ Due
   short fits n e = e ∙ ne_eqb _ _ n ∙ sym (ap (λ (y : Bool). y && trailer_fits (line_size system) (trailer_of trailer) file) (ne_eqb _ _ n))
 
-of-requires : tie.Need-of-requires
-of-requires c κs = search rules
+pub overflow_mul-size : goal.overflow_mul-size
+overflow_mul-size c = omega (arith, c.line_length-size.ensures, longest c.system_of.result)
 
-system-of-requires : tie.Need-system-of-requires
-system-of-requires c κs = search rules
-
-line-length-requires : tie.Need-line-length-requires
-line-length-requires c κs = search rules
-
-mul-size : tie.Need-overflow-mul-size
-mul-size c = omega (arith, c.line-length.ensures, longest c.before.system-of.result)
-
-fits-requires : tie.Need-fits-requires
-fits-requires c κs = search rules
-
-cast-t14 : tie.Need-overflow-cast-t14
-cast-t14 c = search rules
-
-mul-t15 : tie.Need-overflow-mul-t15
-mul-t15 c = search rules
-
-returns : tie.Need-returns
+pub returns : goal.returns
 unfolding begun_of
 returns c =
-    let length = c.before.before in
-    let system = length.before in
-    let told = system.before in
-    let x = told.before.before.args in
-    let t = told.of.ensures in
-    let fits =
-    ⊎_elim
-    (λ y. fitting x.system x.trailer.now x.length _ _ _ _ t system.system-of.ensures length.line-length.ensures y.0.taken
-    (y.2 ∙ y.1.ensures))
-    (λ y. short x.system x.trailer.now x.length _ y.0.left y.1)
-    c.before.if1.branch
+    let x = c.args in
+    let t = c.of-told.ensures in
+    let fits : c.if-trailer-eq-TRAILER_LENGTH.fits ≡ Due x.system x.trailer.now x.length =
+    elim c.if-trailer-eq-TRAILER_LENGTH.branch [
+      | then-trailer-eq-TRAILER_LENGTH w ↦ fitting x.system x.trailer.now x.length _ _ _ _ t c.system_of.ensures c.line_length-size.ensures
+          w.if-trailer-eq-TRAILER_LENGTH.true (w.fits-is ∙ w.fits-fits.ensures)
+      | else-trailer-eq-TRAILER_LENGTH w ↦ short x.system x.trailer.now x.length _ w.if-trailer-eq-TRAILER_LENGTH.false w.fits-is
+    ]
     in
     simp (t, fits)
-
-pub begin-spec : {M : Type 1} → statement M
-begin-spec =
-    tie.close
-    (tie.spec
-    of-requires
-    system-of-requires
-    line-length-requires
-    mul-size
-    fits-requires
-    cast-t14
-    mul-t15
-    returns)
