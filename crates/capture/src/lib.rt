@@ -11,8 +11,7 @@ use words::MOST_WORD;
 
 // The correction of a fourth word as one number: the corrected word and 4,096 times the repaired bit, or 65,536 times the refusal's
 // number. Any 32-bit number may come: nothing is cut before it is judged.
-#[unsafe(no_mangle)]
-pub extern "C" fn fiskrogn_correct(word: u32) -> u32
+pub fn fiskrogn_correct(word: u32) -> u32
     ensures { result ≡ correct_answer word }
 {
     if (MOST_WORD as u32) < word {
@@ -29,8 +28,7 @@ pub extern "C" fn fiskrogn_correct(word: u32) -> u32
 // Judges the line that a walk awaits, lent as bytes, two per word, low byte first: 65,536 times a refusal's number plus its place, or the
 // line's repairs. The walk is given by all that it holds, its record of V among it, 0 for no and anything else for yes, and its tally, and none
 // is handed back.
-#[unsafe(no_mangle)]
-pub extern "C" fn fiskrogn_judge(
+pub fn fiskrogn_judge(
     system: u32,
     line: u32,
     lines_read: u32,
