@@ -1,6 +1,5 @@
 -- `writer::ready::ready_refusal` meets its contract: ready words are a space of just their length, whose offsets are moved to those of the line.
 -- Assumes nothing.
-use borrow.Author.Rules.{rules}
 use Prim.Native.Nat.{ℕ, ◌+◌, ◌<◌}
 use mathlib.Core.Path.{◌≡◌, refl, sym, ap, ◌∙◌}
 use mathlib.Core.List.{List}
@@ -17,8 +16,7 @@ use Rattle.packets.specs.Fault.{word_at, space_to, space_of, no_word, ready_refu
 use Rattle.packets.specs.Refusals.{ready_refusals}
 use Rattle.packets.proofs.Ready.{ready_space, ready_none, ready_at, ready_number}
 use Rattle.packets.proofs.Exact.{ready_exact}
-use Rattle.writer.proofs.ready.ready_refusal.Statement.{statement}
-use Rattle.writer.proofs.ready.ready_refusal.Tie as tie
+use Rattle.writer.proofs.ready.ready_refusal.Goals as goal
 
 -- the space that was judged ends where the words do
 as_ready : (ready : List ℕ) (s : Space) → s ≡ space_of ready 0 (length ready) no_word no_word → s ≡ ready_space ready
@@ -34,32 +32,18 @@ within start ready b = told (ready_exact start ready)
     told (inl (asked, refuses)) = omega (arith, asked.within, ap (λ (r : Refusal). r.place) (ready_at start ready b))
     told (inr (silent, accepted)) = absurd (b (sym (ready_number start ready) ∙ same_number accepted))
 
-judge-space-requires : tie.Need-judge-space-requires
-judge-space-requires c κs = search rules
+pub returns-then-space-eq0 : goal.returns-then-space-eq0
+returns-then-space-eq0 c =
+    let a = c.args in
+    sym (ready_none a.start a.ready.now (sym (ap (λ (s : Space). s.number) (as_ready c.args.ready.now _ c.judge_space-space.ensures)) ∙ c.if-space-eq0.true))
 
--- what the judged space answered
-answered : (c : tie.After-judge-space) → c.judge-space.result ≡ ready_space c.before.before.args.ready.now
-answered c = as_ready c.before.before.args.ready.now c.judge-space.result c.judge-space.ensures
+pub overflow_add-result : goal.overflow_add-result
+overflow_add-result c =
+    let place = ap (λ (s : Space). s.place) (as_ready c.args.ready.now _ c.judge_space-space.ensures) in
+    omega (arith, within c.args.start c.args.ready.now (λ z. c.if-space-eq0.false (ap (λ (s : Space). s.number) (as_ready c.args.ready.now _ c.judge_space-space.ensures) ∙ z)), place, c.requires)
 
-faulty : (c : tie.Else1) → (ready_space c.before.before.before.before.args.ready.now).number ≡ 0 → ⊥
-faulty c z = c.if1.false (ap (λ (s : Space). s.number) (answered c.before.before) ∙ z)
-
-returns : tie.Need-returns
+pub returns : goal.returns
 returns c =
-    let a = c.before.before.before.before.args in
-    sym (ready_none a.start a.ready.now (sym (ap (λ (s : Space). s.number) (answered c.before.before)) ∙ c.if1.true))
-
-add-t4 : tie.Need-overflow-add-t4
-add-t4 c =
-    let start = c.before.before.before.before.before in
-    let place = ap (λ (s : Space). s.place) (answered c.before.before.before) in
-    omega (arith, within start.args.start start.args.ready.now (faulty c.before), place, start.requires)
-
-returns-2 : tie.Need-returns-2
-returns-2 c =
-    let a = c.before.before.before.before.before.args in
-    ap (λ (s : Space). record { number = s.number; place = a.start + s.place }) (answered c.before.before.before)
-    ∙ sym (ready_at a.start a.ready.now (faulty c.before))
-
-pub ready-refusal-spec : {M : Type 1} → statement M
-ready-refusal-spec = tie.close (tie.spec judge-space-requires returns add-t4 returns-2)
+    let a = c.args in
+    ap (λ (s : Space). record { number = s.number; place = a.start + s.place }) (as_ready c.args.ready.now _ c.judge_space-space.ensures)
+    ∙ sym (ready_at a.start a.ready.now (λ z. c.if-space-eq0.false (ap (λ (s : Space). s.number) (as_ready c.args.ready.now _ c.judge_space-space.ensures) ∙ z)))

@@ -1,5 +1,4 @@
 -- `writer::write` meets its contract: the numbers name something, and then what is due in that line decides. Assumes nothing.
-use borrow.Author.Rules.{rules}
 use Prim.Native.Nat.{ℕ}
 use mathlib.Core.Path.{◌≡◌, sym, ap, ◌∙◌}
 use mathlib.Core.List.{List}
@@ -14,15 +13,7 @@ use Rattle.system.specs.Due.{due_of}
 use Rattle.system.specs.Walk.{written_refusal}
 use Rattle.line.specs.Samples.{Content, line_of}
 use Rattle.writer.specs.Write.{due_refusal, write_refusal, line_after}
-use Rattle.writer.proofs.write.Statement.{statement}
-use Rattle.writer.proofs.write.Tie as tie
-
-abbrev content-of : tie.Start → Content
-content-of c =
-    record {
-      samples = record { y = c.args.y.now; cb = c.args.cb.now; cr = c.args.cr.now };
-      packets = record { between = c.args.between.now; active = c.args.active.now };
-    }
+use Rattle.writer.proofs.write.Goals as goal
 
 module _ (system line fall : ℕ) (c : Content) (words : List ℕ) (named : Refusal) (is-named : named ≡ written_refusal system line fall) where
   unnamed : (named.number ≡ 0 → ⊥) → (named ≡ write_refusal system line fall c (length words)) × (words ≡ line_after system line fall c words)
@@ -40,43 +31,16 @@ module _ (system line fall : ℕ) (c : Content) (words : List ℕ) (named : Refu
       answer ∙ ap (λ (x : Due). due_refusal x c (length words)) is_due ∙ sym (or_else_accepted (written_refusal system line fall) _ (sym (same_number is-named) ∙ z)) in
       (same, left ∙ ap (λ (x : Due). written_by r (line_of x c) words) is_due ∙ ap (λ (x : Refusal). written_by x (line_of (due_of (system_of system) line fall) c) words) same)
 
-written-refusal-requires : tie.Need-written-refusal-requires
-written-refusal-requires c κs = search rules
+pub returns-then-named-ne0 : goal.returns-then-named-ne0
+returns-then-named-ne0 c =
+    let k : Content = record { samples = record { y = c.args.y.now; cb = c.args.cb.now; cr = c.args.cr.now }; packets = record { between = c.args.between.now; active = c.args.active.now } } in
+    let both = unnamed c.args.system c.args.line c.args.fall k c.args.words.now _ c.written_refusal-named.ensures c.if-named-ne0.true in
+    record { answer = both.0; words = both.1 }
 
-returns : tie.Need-returns
+pub returns : goal.returns
 returns c =
-    let start = c.before.before.before.before.before.before.before.before.before in
-    let named = c.before.before.written-refusal.ensures in
-    unnamed start.args.system start.args.line start.args.fall (content-of start) start.args.words.now _ named c.if1.true
-
-system-of-requires : tie.Need-system-of-requires
-system-of-requires c κs = search rules
-
-of-requires : tie.Need-of-requires
-of-requires c κs = search rules
-
-write-line-requires : tie.Need-write-line-requires
-write-line-requires c κs = search rules
-
-same_length : tie.Need-same-length
-same_length c = search rules
-
-returns-2 : tie.Need-returns-2
-returns-2 c =
-    let start = c.before.before.before.before.before.before.before.before.before.before.before.before.before.before.before in
-    let wrote = c.before.before.write-line.ensures in
-    let due = c.before.before.before.before.of.ensures ∙ ap (λ (s : System). due_of s start.args.line start.args.fall) c.before.before.before.before.before.system-of.ensures in
-    as_due start.args.system start.args.line start.args.fall (content-of start) start.args.words.now _ c.before.before.before.before.before.before.before.before.written-refusal.ensures
-    c.before.before.before.before.before.before.if1.false _ due _ _ wrote.0 wrote.1
-
-pub write_spec : {M : Type 1} → statement M
-write_spec =
-    tie.close
-    (tie.spec
-    written-refusal-requires
-    returns
-    system-of-requires
-    of-requires
-    write-line-requires
-    same_length
-    returns-2)
+    let k : Content = record { samples = record { y = c.args.y.now; cb = c.args.cb.now; cr = c.args.cr.now }; packets = record { between = c.args.between.now; active = c.args.active.now } } in
+    let wrote = c.write_line.ensures in
+    let due = c.of-due.ensures ∙ ap (λ (s : System). due_of s c.args.line c.args.fall) c.system_of.ensures in
+    let both = as_due c.args.system c.args.line c.args.fall k c.args.words.now _ c.written_refusal-named.ensures c.if-named-ne0.false _ due _ _ wrote.answer wrote.words in
+    record { answer = both.0; words = both.1 }
