@@ -1,7 +1,7 @@
 -- The writer's answers, as each of their tests leaves them, and what is known where nothing is refused. Assumes nothing.
 use Prim.Native.Nat.{ℕ, ◌+◌, ◌<◌, ◌≤◌}
 use mathlib.Core.Path.{◌≡◌, refl, sym, ◌∙◌}
-use mathlib.Core.Bool.{true, false, true≢false, not, ◌||◌}
+use mathlib.Core.Bool.{true≢false, not, ◌||◌}
 use mathlib.Core.List.{List}
 use mathlib.Core.Logic.{inr}
 use native.Mathlib.Omega.{arith}
