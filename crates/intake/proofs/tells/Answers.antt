@@ -5,8 +5,7 @@ use mir.ValLaws.{to_z-of_z}
 use Rattle.io.specs.Counts.{clamp_len}
 use Rattle.intake.specs.declared.Told.TheVariants.{Failed, Ended, Bytes}
 use Rattle.intake.specs.Arrival.{is_negative, told_of}
-use Rattle.intake.proofs.tells.Statement.{statement}
-use Rattle.intake.proofs.tells.Tie as tie
+use Rattle.intake.proofs.tells.Goals as goal
 
 negative : (z : ℤ) → is_negative z ≡ lt_z z (pos 0)
 negative (pos k) = sym (le-ltb k 0 (omega arith))
@@ -44,39 +43,22 @@ module _ (got : ℤ) (room : ℕ) where
     unfolding told_of
     some z = simp (ne_eqb _ _ e, negative got ∙ n, sym is, ne_eqb _ _ z)
 
-returns : tie.Need-returns
-returns c = let s = c.before.before in (no_room s.args.got (length s.args.room.now) c.if1.true, tt)
+pub returns-then-room-eq0 : goal.returns-then-room-eq0
+returns-then-room-eq0 c = record { told = no_room c.args.got (length c.args.room.now) c.if-room-eq0.true; room = tt }
 
-returns-2 : tie.Need-returns-2
-returns-2 c =
-    let s = c.before.before.before in
-    let z = to_z-of_z w64 s.args.got s.ranges.got in
-    (below s.args.got (length s.args.room.now) c.before.if1.false (below_zero s.args.got _ _ z c.if2.true refl), tt)
+pub returns-then-got-lt0 : goal.returns-then-got-lt0
+returns-then-got-lt0 c =
+    let z = to_z-of_z w64 c.args.got c.ranges.got in
+    record { told = below c.args.got (length c.args.room.now) c.if-room-eq0.false (below_zero c.args.got _ _ z c.if-got-lt0.true refl); room = tt }
 
-count-requires : tie.Need-count-requires
-count-requires c κs = search rules
+pub returns-then-count-eq0 : goal.returns-then-count-eq0
+returns-then-count-eq0 c =
+    let z = to_z-of_z w64 c.args.got c.ranges.got in
+    let room = length c.args.room.now in record { told = ended c.args.got room c.count-count.result c.if-room-eq0.false (subst (λ (z : ℤ). lt_z z (pos 0) ≡ false) z c.if-got-lt0.false)
+          (subst (λ (z : ℤ). c.count-count.result ≡ clamp_len z room) z c.count-count.ensures.value) c.if-count-eq0.true; room = tt }
 
-returns-3 : tie.Need-returns-3
-returns-3 c =
-    let e = c.before.before in
-    let s = e.before.before.before in
-    let z = to_z-of_z w64 s.args.got s.ranges.got in
-    let room = length s.args.room.now in (
-      ended s.args.got room c.before.count.result e.before.if1.false (subst (λ (z : ℤ). lt_z z (pos 0) ≡ false) z e.if2.false)
-          (subst (λ (z : ℤ). c.before.count.result ≡ clamp_len z room) z c.before.count.ensures.1) c.if3.true,
-      tt,
-    )
-
-returns-4 : tie.Need-returns-4
-returns-4 c =
-    let e = c.before.before in
-    let s = e.before.before.before in
-    let z = to_z-of_z w64 s.args.got s.ranges.got in
-    let room = length s.args.room.now in (
-      some s.args.got room c.before.count.result e.before.if1.false (subst (λ (z : ℤ). lt_z z (pos 0) ≡ false) z e.if2.false)
-          (subst (λ (z : ℤ). c.before.count.result ≡ clamp_len z room) z c.before.count.ensures.1) c.if3.false,
-      (omega (arith, c.if3.false), c.before.count.ensures.0.0),
-    )
-
-pub tells-spec : {M : Type 1} → statement M
-tells-spec = tie.close (tie.spec returns returns-2 count-requires returns-3 returns-4)
+pub returns : goal.returns
+returns c =
+    let z = to_z-of_z w64 c.args.got c.ranges.got in
+    let room = length c.args.room.now in record { told = some c.args.got room c.count-count.result c.if-room-eq0.false (subst (λ (z : ℤ). lt_z z (pos 0) ≡ false) z c.if-got-lt0.false)
+          (subst (λ (z : ℤ). c.count-count.result ≡ clamp_len z room) z c.count-count.ensures.value) c.if-count-eq0.false; room = (omega (arith, c.if-count-eq0.false), c.count-count.ensures.in_bounds.0) }
