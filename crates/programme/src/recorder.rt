@@ -23,8 +23,8 @@ fn write_row(
     words: &mut [u16],
 ) -> Refusal
     requires { (length part.old ≡ active_length) × (length words.old ≡ line_words walk) }
-    ensures answer { result ≡ row_refusal fall walk row.now (record { between = between.entry.now; active = active.now }) }
-    ensures words { result.number ≡ 0 → words.new ≡ line_of (due_at_walk fall walk) (row_content row.now (record { between = between.entry.now; active = active.now })) }
+    ensures answer { result ≡ row_refusal fall walk row.now (record { between = between.now; active = active.now }) }
+    ensures words { result.number ≡ 0 → words.new ≡ line_of (due_at_walk fall walk) (row_content row.now (record { between = between.now; active = active.now })) }
 {
     let due = due_at(walk, fall);
     if due.v {
@@ -53,8 +53,8 @@ fn write_line(
     words: &mut [u16],
 ) -> Refusal
     requires { length words.old ≡ line_words walk }
-    ensures answer { result ≡ row_refusal fall walk row.now (record { between = between.entry.now; active = active.now }) }
-    ensures words { result.number ≡ 0 → words.new ≡ line_of (due_at_walk fall walk) (row_content row.now (record { between = between.entry.now; active = active.now })) }
+    ensures answer { result ≡ row_refusal fall walk row.now (record { between = between.now; active = active.now }) }
+    ensures words { result.number ≡ 0 → words.new ≡ line_of (due_at_walk fall walk) (row_content row.now (record { between = between.now; active = active.now })) }
 {
     let mut part = [0u16; ACTIVE_LENGTH];
     write_row(walk, fall, row, between, active, &mut part, words)
@@ -71,8 +71,8 @@ fn record_in(
     line: &mut [u8],
 ) -> Judgement
     requires { ((walk_refusal walk).number ≡ 0) × (is_fall (system_of walk.system) fall ≡ true) × (length words.old ≡ line_words walk) × (length line.old ≡ 2 * length words.old) }
-    ensures answer { result ≡ recorded_of fall walk row.now (record { between = between.entry.now; active = active.now }) (length line.old) }
-    ensures line { line.new ≡ line_bytes_after fall walk row.now (record { between = between.entry.now; active = active.now }) line.old }
+    ensures answer { result ≡ recorded_of fall walk row.now (record { between = between.now; active = active.now }) (length line.old) }
+    ensures line { line.new ≡ line_bytes_after fall walk row.now (record { between = between.now; active = active.now }) line.old }
 {
     let refusal = write_line(walk, fall, row, between, active, words);
     if refusal.number != 0 {
@@ -113,8 +113,8 @@ pub fn record(
     active: &[u16],
     line: &mut [u8],
 ) -> Judgement
-    ensures answer { result ≡ recorded_of fall walk row.now (record { between = between.entry.now; active = active.now }) (length line.old) }
-    ensures line { line.new ≡ line_bytes_after fall walk row.now (record { between = between.entry.now; active = active.now }) line.old }
+    ensures answer { result ≡ recorded_of fall walk row.now (record { between = between.now; active = active.now }) (length line.old) }
+    ensures line { line.new ≡ line_bytes_after fall walk row.now (record { between = between.now; active = active.now }) line.old }
 {
     let refusal = standing(walk, fall, line.len());
     if refusal.number != 0 {

@@ -67,8 +67,8 @@ impl Tape {
 
     // The tape after its awaited line, which is recorded as `record` does. A tape that was refused stays as it is.
     pub fn next(self, row: &[u8], between: &[u16], active: &[u16], line: &mut [u8]) -> Tape
-        ensures answer { result ≡ taped_of self row.now (record { between = between.entry.now; active = active.now }) (length line.old) }
-        ensures line { line.new ≡ line_taped self row.now (record { between = between.entry.now; active = active.now }) line.old }
+        ensures answer { result ≡ taped_of self row.now (record { between = between.now; active = active.now }) (length line.old) }
+        ensures line { line.new ≡ line_taped self row.now (record { between = between.now; active = active.now }) line.old }
     {
         if self.number != 0 {
             return self;

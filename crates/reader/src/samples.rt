@@ -48,10 +48,10 @@ fn take_refusal(walk: Walk, words: &[u16], y: usize, cb: usize, cr: usize) -> Re
 // Takes the samples of the line that a walk awaits, where it judges well, the buffers have their lengths and its V is 0. Refused as judging
 // refuses it, then with 3 for a buffer's length; the walk then stands, though judging may have accepted.
 pub fn take(walk: Walk, words: &[u16], y: &mut [u16], cb: &mut [u16], cr: &mut [u16]) -> Refusal
-    ensures answer { result ≡ take_refusal walk words.now (record { y = y.entry.now; cb = cb.old; cr = cr.old }) }
-    ensures ys { y.exit.now ≡ (taken_of walk words.now (record { y = y.entry.now; cb = cb.old; cr = cr.old })).y }
-    ensures cbs { cb.new ≡ (taken_of walk words.now (record { y = y.entry.now; cb = cb.old; cr = cr.old })).cb }
-    ensures crs { cr.new ≡ (taken_of walk words.now (record { y = y.entry.now; cb = cb.old; cr = cr.old })).cr }
+    ensures answer { result ≡ take_refusal walk words.now (record { y = y.old; cb = cb.old; cr = cr.old }) }
+    ensures ys { y.new ≡ (taken_of walk words.now (record { y = y.old; cb = cb.old; cr = cr.old })).y }
+    ensures cbs { cb.new ≡ (taken_of walk words.now (record { y = y.old; cb = cb.old; cr = cr.old })).cb }
+    ensures crs { cr.new ≡ (taken_of walk words.now (record { y = y.old; cb = cb.old; cr = cr.old })).cr }
 {
     let refusal = take_refusal(walk, words, y.len(), cb.len(), cr.len());
     if refusal.number != 0 {

@@ -29,10 +29,10 @@ pub extern "C" fn speed_take(
     cb: &mut [u16],
     cr: &mut [u16],
 ) -> u32
-    ensures answer { result ≡ (take_refusal (fresh_walk system line) words.now (record { y = y.entry.now; cb = cb.old; cr = cr.old })).number }
-    ensures ys { y.exit.now ≡ (taken_of (fresh_walk system line) words.now (record { y = y.entry.now; cb = cb.old; cr = cr.old })).y }
-    ensures cbs { cb.new ≡ (taken_of (fresh_walk system line) words.now (record { y = y.entry.now; cb = cb.old; cr = cr.old })).cb }
-    ensures crs { cr.new ≡ (taken_of (fresh_walk system line) words.now (record { y = y.entry.now; cb = cb.old; cr = cr.old })).cr }
+    ensures answer { result ≡ (take_refusal (fresh_walk system line) words.now (record { y = y.old; cb = cb.old; cr = cr.old })).number }
+    ensures ys { y.new ≡ (taken_of (fresh_walk system line) words.now (record { y = y.old; cb = cb.old; cr = cr.old })).y }
+    ensures cbs { cb.new ≡ (taken_of (fresh_walk system line) words.now (record { y = y.old; cb = cb.old; cr = cr.old })).cb }
+    ensures crs { cr.new ≡ (taken_of (fresh_walk system line) words.now (record { y = y.old; cb = cb.old; cr = cr.old })).cr }
 {
     let walk = Walk::of(system, line, 0, 0, 0, 0);
     reader::take(walk, words, y, cb, cr).number
@@ -48,10 +48,10 @@ pub extern "C" fn speed_in_turn(
     cb: &mut [u16],
     cr: &mut [u16],
 ) -> u32
-    ensures answer { result ≡ (in_turn (fresh_walk system line) words.now (record { y = y.entry.now; cb = cb.old; cr = cr.old })).judgement.number }
-    ensures ys { y.exit.now ≡ (in_turn (fresh_walk system line) words.now (record { y = y.entry.now; cb = cb.old; cr = cr.old })).buffers.y }
-    ensures cbs { cb.new ≡ (in_turn (fresh_walk system line) words.now (record { y = y.entry.now; cb = cb.old; cr = cr.old })).buffers.cb }
-    ensures crs { cr.new ≡ (in_turn (fresh_walk system line) words.now (record { y = y.entry.now; cb = cb.old; cr = cr.old })).buffers.cr }
+    ensures answer { result ≡ (in_turn (fresh_walk system line) words.now (record { y = y.old; cb = cb.old; cr = cr.old })).judgement.number }
+    ensures ys { y.new ≡ (in_turn (fresh_walk system line) words.now (record { y = y.old; cb = cb.old; cr = cr.old })).buffers.y }
+    ensures cbs { cb.new ≡ (in_turn (fresh_walk system line) words.now (record { y = y.old; cb = cb.old; cr = cr.old })).buffers.cb }
+    ensures crs { cr.new ≡ (in_turn (fresh_walk system line) words.now (record { y = y.old; cb = cb.old; cr = cr.old })).buffers.cr }
 {
     let walk = Walk::of(system, line, 0, 0, 0, 0);
     let judgement = reader::judge(walk, words);
@@ -72,8 +72,8 @@ pub extern "C" fn speed_write(
     active: &[u16],
     words: &mut [u16],
 ) -> u32
-    ensures answer { result ≡ (write_refusal system line 20 (record { samples = record { y = y.entry.now; cb = cb.now; cr = cr.now }; packets = record { between = between.entry.now; active = active.now } }) (length words.old)).number }
-    ensures words { words.new ≡ line_after system line 20 (record { samples = record { y = y.entry.now; cb = cb.now; cr = cr.now }; packets = record { between = between.entry.now; active = active.now } }) words.old }
+    ensures answer { result ≡ (write_refusal system line 20 (record { samples = record { y = y.old; cb = cb.now; cr = cr.now }; packets = record { between = between.entry.now; active = active.now } }) (length words.old)).number }
+    ensures words { words.new ≡ line_after system line 20 (record { samples = record { y = y.old; cb = cb.now; cr = cr.now }; packets = record { between = between.entry.now; active = active.now } }) words.old }
 {
     writer::write(
         system,

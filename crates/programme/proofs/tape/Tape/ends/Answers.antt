@@ -9,8 +9,8 @@ use Rattle.system.specs.Walk.{walk_refusal}
 use Rattle.programme.specs.declared.tape.Tape.{Tape}
 use Rattle.programme.specs.Record.{ends_frame}
 use Rattle.programme.specs.Tape.{ends_at}
-use Rattle.programme.proofs.tape.Tape.ends.Statement.{statement}
-use Rattle.programme.proofs.tape.Tape.ends.Tie as tie
+use mathlib.Core.Bool.{not}
+use Rattle.programme.proofs.tape.Tape.ends.Goals as goal
 
 module _ (t : Tape) where
   refused : (t.number ≡ 0 → ⊥) → false ≡ ends_at t
@@ -25,28 +25,13 @@ module _ (t : Tape) where
   unfolding ends_at
   in_a_frame z e r is = simp (eq-eqb _ _ z, e) (ap (λ (x : Refusal). eqb x.number 0) is)
 
-returns : tie.Need-returns
-returns c = refused c.before.before.args.self c.if1.true
+pub returns-then-self-ne0 : goal.returns-then-self-ne0
+returns-then-self-ne0 c = refused c.args.self c.if-self-ne0.true
 
-ends-frame-requires : tie.Need-ends-frame-requires
-ends-frame-requires c κs = tt
+pub returns-then-not-ends_frame : goal.returns-then-not-ends_frame
+returns-then-not-ends_frame c =
+    between_frames c.args.self c.if-self-ne0.false (sym c.ends_frame.ensures ∙ not_true _ (ap not c.if-not-ends_frame.true))
 
-returns-2 : tie.Need-returns-2
-returns-2 c =
-    let f = c.before in
-    let i = f.before in
-    between_frames i.before.before.args.self i.if1.false (sym f.ends-frame.ensures ∙ not_true _ c.if2.true)
-
-refusal-requires : tie.Need-refusal-requires
-refusal-requires c κs = tt
-
-returns-3 : tie.Need-returns-3
-returns-3 c =
-    let r = c.before in
-    let e = r.before.before in
-    let f = e.before in
-    let i = f.before in
-    in_a_frame i.before.before.args.self i.if1.false (sym f.ends-frame.ensures ∙ not_false _ e.if2.false) r.refusal.result r.refusal.ensures
-
-pub ends-spec : {M : Type 1} → statement M
-ends-spec = tie.close (tie.spec returns ends-frame-requires returns-2 refusal-requires returns-3)
+pub returns : goal.returns
+returns c =
+    in_a_frame c.args.self c.if-self-ne0.false (sym c.ends_frame.ensures ∙ not_false _ (ap not c.if-not-ends_frame.false)) c.refusal.result c.refusal.ensures

@@ -23,8 +23,7 @@ use Rattle.programme.specs.declared.extractor.Extraction.{Extraction}
 use Rattle.programme.specs.Extract.{room_refusal, extracted_of, gives_row, row_after_line}
 use Rattle.programme.specs.Extraction.{extraction_of, row_after_next}
 use Rattle.programme.proofs.ExtractTheorems.{extract_number}
-use Rattle.programme.proofs.extractor.extract_next.Statement.{statement}
-use Rattle.programme.proofs.extractor.extract_next.Tie as tie
+use Rattle.programme.proofs.extractor.extract_next.Goals as goal
 
 -- the run after a judgement
 abbrev after : Run → Judgement → Run
@@ -63,45 +62,27 @@ module _ (run : Run) (bytes before : List ℕ) where
     refused : (j.number ≡ 0 → ⊥) → Meets (after run j) false j.packets row
     refused n = goes_on false (simp (ne_eqb _ _ n))
 
-returns : tie.Need-returns
+pub returns-then-run-ne0 : goal.returns-then-run-ne0
+returns-then-run-ne0 c =
+    let a = c.args in
+    let both = ended a.run a.bytes.now a.row.now c.if-run-ne0.true in
+    record { answer = both.0; row = both.1 }
+
+pub returns-then-judgement-ne0 : goal.returns-then-judgement-ne0
+returns-then-judgement-ne0 c =
+    let a = c.args in
+    let j = c.extract-judgement in
+    let both = refused a.run a.bytes.now a.row.now c.if-run-ne0.false j.result _ j.ensures.answer j.ensures.row c.if-judgement-ne0.true in
+    record { answer = both.0; row = both.1 }
+
+pub gives_row-requires : goal.gives_row-requires
+gives_row-requires c =
+    let a = c.args in
+    long a.run a.bytes.now a.row.now c.extract-judgement.result c.extract-judgement.ensures.answer c.if-judgement-ne0.false
+
+pub returns : goal.returns
 returns c =
-    let a = c.before.before.before.before.args in
-    ended a.run a.bytes.now a.row.now c.if1.true
-
-extract-requires : tie.Need-extract-requires
-extract-requires c κs = search rules
-
-same_length : tie.Need-same-length
-same_length c = search rules
-
-returns-2 : tie.Need-returns-2
-returns-2 c =
-    let a = c.before.before.before.before.before.before.before.before.before.before.before.before.args in
-    let j = c.before.before.before.before.before.before.extract in
-    refused a.run a.bytes.now a.row.now c.before.before.before.before.before.before.before.before.if1.false j.result _ j.ensures.0 j.ensures.1 c.if2.true
-
-gives-row-requires : tie.Need-gives-row-requires
-gives-row-requires c κs =
-    let a = c.before.before.before.before.before.before.before.before.before.before.before.before.args in
-    long a.run a.bytes.now a.row.now c.before.before.before.before.before.before.extract.result c.before.before.before.before.before.before.extract.ensures.0 c.if2.false
-
-same-length-2 : tie.Need-same-length-2
-same-length-2 c = search rules
-
-returns-3 : tie.Need-returns-3
-returns-3 c =
-    let a = c.before.before.before.before.before.before.before.before.before.before.before.before.before.args in
-    let j = c.before.before.before.before.before.before.before.extract in
-    accepted_line a.run a.bytes.now a.row.now c.before.before.before.before.before.before.before.before.before.if1.false j.result _ j.ensures.0 j.ensures.1 c.before.if2.false _ c.Gives-row.ensures
-
-pub extract-next-spec : {M : Type 1} → statement M
-extract-next-spec =
-    tie.close
-    (tie.spec
-    returns
-    extract-requires
-    same_length
-    returns-2
-    gives-row-requires
-    same-length-2
-    returns-3)
+    let a = c.args in
+    let j = c.extract-judgement in
+    let both = accepted_line a.run a.bytes.now a.row.now c.if-run-ne0.false j.result _ j.ensures.answer j.ensures.row c.if-judgement-ne0.false _ c.gives_row.ensures in
+    record { answer = both.0; row = both.1 }

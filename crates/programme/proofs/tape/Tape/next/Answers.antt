@@ -10,8 +10,7 @@ use Rattle.line.specs.Samples.{Packets}
 use Rattle.programme.specs.declared.tape.Tape.{Tape}
 use Rattle.programme.specs.Record.{recorded_of, line_bytes_after}
 use Rattle.programme.specs.Tape.{taped_of, line_taped}
-use Rattle.programme.proofs.tape.Tape.next.Statement.{statement}
-use Rattle.programme.proofs.tape.Tape.next.Tie as tie
+use Rattle.programme.proofs.tape.Tape.next.Goals as goal
 
 module _ (t : Tape) (row : List ℕ) (k : Packets) (before : List ℕ) where
   ended : (t.number ≡ 0 → ⊥) → (t ≡ taped_of t row k (length before)) × (before ≡ line_taped t row k before)
@@ -26,23 +25,14 @@ module _ (t : Tape) (row : List ℕ) (k : Packets) (before : List ℕ) where
     simp (eq-eqb _ _ z) line,
   )
 
-returns : tie.Need-returns
+pub returns-then-self-ne0 : goal.returns-then-self-ne0
+returns-then-self-ne0 c =
+    let a = c.args in
+    let both = ended a.self a.row.now (record { between = a.between.now; active = a.active.now }) a.line.now c.if-self-ne0.true in
+    record { answer = both.0; line = both.1 }
+
+pub returns : goal.returns
 returns c =
-    let a = c.before.before.before.before.before.before.args in
-    ended a.self a.row.now (record { between = a.between.now; active = a.active.now }) a.line.now c.if1.true
-
-record-requires : tie.Need-record-requires
-record-requires c κs = tt
-
-same_length : tie.Need-same-length
-same_length c = search rules
-
-returns-2 : tie.Need-returns-2
-returns-2 c =
-    let j = c.before.before.before in
-    let i = j.before.before in
-    let a = i.before.before.before.before.before.before.args in
-    goes_on a.self a.row.now (record { between = a.between.now; active = a.active.now }) a.line.now i.if1.false j.«record».result _ j.«record».ensures.0 j.«record».ensures.1
-
-pub next-spec : {M : Type 1} → statement M
-next-spec = tie.close (tie.spec returns record-requires same_length returns-2)
+    let a = c.args in
+    let both = goes_on a.self a.row.now (record { between = a.between.now; active = a.active.now }) a.line.now c.if-self-ne0.false c.record-judgement.result _ c.record-judgement.ensures.answer c.record-judgement.ensures.line in
+    record { answer = both.0; line = both.1 }
