@@ -1,5 +1,5 @@
 -- `intake::tells` meets its contract: each test of the code is one of the definition's. Assumes nothing.
-use Rattle.std.proofs.Common.{◌≡◌, ℕ, Bool, true, false, eqb, length, ℤ, pos, negsuc, sym, refl, ap, ◌∙◌, subst, true≢false, arith, w64, rules, ltb-true, le-ltb, eq-eqb, ne_eqb, eqb-true}
+use Rattle.std.proofs.Common.{◌≡◌, ℕ, Bool, true, false, eqb, length, ℤ, pos, negsuc, sym, refl, ap, ◌∙◌, subst, true≢false, arith, w64, ltb-true, le-ltb, eq-eqb, ne_eqb, eqb-true}
 use lib.Signed.{lt_z}
 use mir.ValLaws.{to_z-of_z}
 use Rattle.io.specs.Counts.{clamp_len}
@@ -54,11 +54,17 @@ returns-then-got-lt0 c =
 pub returns-then-count-eq0 : goal.returns-then-count-eq0
 returns-then-count-eq0 c =
     let z = to_z-of_z w64 c.args.got c.ranges.got in
-    let room = length c.args.room.now in record { told = ended c.args.got room c.count-count.result c.if-room-eq0.false (subst (λ (z : ℤ). lt_z z (pos 0) ≡ false) z c.if-got-lt0.false)
-          (subst (λ (z : ℤ). c.count-count.result ≡ clamp_len z room) z c.count-count.ensures.value) c.if-count-eq0.true; room = tt }
+    let room = length c.args.room.now in record {
+      told = ended c.args.got room c.count-count.result c.if-room-eq0.false (subst (λ (z : ℤ). lt_z z (pos 0) ≡ false) z c.if-got-lt0.false)
+          (subst (λ (z : ℤ). c.count-count.result ≡ clamp_len z room) z c.count-count.ensures.value) c.if-count-eq0.true;
+      room = tt;
+    }
 
 pub returns : goal.returns
 returns c =
     let z = to_z-of_z w64 c.args.got c.ranges.got in
-    let room = length c.args.room.now in record { told = some c.args.got room c.count-count.result c.if-room-eq0.false (subst (λ (z : ℤ). lt_z z (pos 0) ≡ false) z c.if-got-lt0.false)
-          (subst (λ (z : ℤ). c.count-count.result ≡ clamp_len z room) z c.count-count.ensures.value) c.if-count-eq0.false; room = (omega (arith, c.if-count-eq0.false), c.count-count.ensures.in_bounds.0) }
+    let room = length c.args.room.now in record {
+      told = some c.args.got room c.count-count.result c.if-room-eq0.false (subst (λ (z : ℤ). lt_z z (pos 0) ≡ false) z c.if-got-lt0.false)
+          (subst (λ (z : ℤ). c.count-count.result ≡ clamp_len z room) z c.count-count.ensures.value) c.if-count-eq0.false;
+      room = (omega (arith, c.if-count-eq0.false), c.count-count.ensures.in_bounds.0);
+    }

@@ -1,5 +1,5 @@
 -- `intake::Filled::after` meets its contract, in each case of what was told. Assumes nothing.
-use Rattle.std.proofs.Common.{sym, ap, rules}
+use Rattle.std.proofs.Common.{sym, ap}
 use Rattle.intake.specs.declared.Told.{Told}
 use Rattle.intake.specs.Arrival.{filled_after}
 use Rattle.intake.proofs.Filled.after.Goals as goal

@@ -1,10 +1,9 @@
 -- `flip` meets its contract: followed on the bits, it is the list reversed. Assumes nothing.
 use native.Mathlib.Omega.{arith}
 use Rattle.serial.proofs.Machine.{is_bits, is_xor, is_shr, is_shl, is_mask}
-use Rattle.serial.proofs.held.flip.Statement.{statement}
-use Rattle.serial.proofs.held.flip.Tie as tie
+use Rattle.serial.proofs.held.flip.Goals as goal
 
-returns : tie.Need-returns
+pub returns : goal.returns
 returns c =
     let h = is_bits 9 {x = c.args.nine} (omega arith) in
     let to-8 = is_shl 8 (is_mask 1 h) in
@@ -16,6 +15,3 @@ returns c =
     let to-2 = is_xor to-3 (is_shl 2 (is_mask 1 (is_shr 6 h))) in
     let to-1 = is_xor to-2 (is_shl 1 (is_mask 1 (is_shr 7 h))) in
     (is_xor to-1 (is_shr 8 h)).eq
-
-pub flip-spec : {M : Type 1} → statement M
-flip-spec = tie.close (tie.spec returns)

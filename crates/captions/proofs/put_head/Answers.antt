@@ -1,5 +1,4 @@
 -- `captions::put_head` meets its contract: a refusal comes before the first store. Assumes nothing.
-use borrow.Author.Rules.{rules}
 use Prim.Native.Nat.{ℕ}
 use mathlib.Core.Path.{◌≡◌, sym, ◌∙◌}
 use mathlib.Core.List.{List}
@@ -11,8 +10,7 @@ use Rattle.refusal.specs.Answer.{none}
 use Rattle.refusal.proofs.Firsts.{same_number, written_accepted, written_refused}
 use Rattle.captions.specs.declared.Entry.{Entry}
 use Rattle.captions.specs.Entry.{head_length, head_of, put_refusal, head_after}
-use Rattle.captions.proofs.put_head.Statement.{statement}
-use Rattle.captions.proofs.put_head.Tie as tie
+use Rattle.captions.proofs.put_head.Goals as goal
 
 module _ (e : Entry) (head : List ℕ) where
   unfit : (length head ≡ head_length → ⊥) → (record { number = wrong_length; place = 0 } ≡ put_refusal (length head)) × (head ≡ head_after e head)
@@ -27,21 +25,13 @@ module _ (e : Entry) (head : List ℕ) where
       let fits : put_refusal (length head) ≡ none = simp (eq-eqb _ _ long) in
       (sym fits, is ∙ sym (written_accepted (put_refusal (length head)) (head_of e) head (same_number fits)))
 
-returns : tie.Need-returns
-returns c = let a = c.before.before.args in unfit a.entry a.head.now c.if1.true
+pub returns-then-head-ne-HEAD_LENGTH : goal.returns-then-head-ne-HEAD_LENGTH
+returns-then-head-ne-HEAD_LENGTH c =
+    let both = let a = c.args in unfit a.entry a.head.now c.if-head-ne-HEAD_LENGTH.true in
+    record { answer = both.0; head = both.1 }
 
-fill-head-requires : tie.Need-fill-head-requires
-fill-head-requires c κs = search rules
-
-same_length : tie.Need-same-length
-same_length c = search rules
-
-returns-2 : tie.Need-returns-2
-returns-2 c =
-    let filled = c.before.before in
-    let i = filled.before.before in
-    let a = i.before.before.args in
-    fit a.entry a.head.now _ i.if1.false filled.fill-head.ensures
-
-pub put-head-spec : {M : Type 1} → statement M
-put-head-spec = tie.close (tie.spec returns fill-head-requires same_length returns-2)
+pub returns : goal.returns
+returns c =
+    let both = let a = c.args in
+    fit a.entry a.head.now _ c.if-head-ne-HEAD_LENGTH.false c.fill_head.ensures in
+    record { answer = both.0; head = both.1 }

@@ -3,16 +3,12 @@ use native.Mathlib.Omega.{arith}
 use mathlib.Core.Path.{refl}
 use Rattle.serial.specs.Serial.{past_decoding}
 use Rattle.serial.proofs.Machine.{is_bits, is_xor, is_shr, is_shl, is_mask, past_is, bounded_is}
-use Rattle.serial.proofs.decoder.settle.Statement.{statement}
-use Rattle.serial.proofs.decoder.settle.Tie as tie
+use Rattle.serial.proofs.decoder.settle.Goals as goal
 
-returns : tie.Need-returns
+pub returns : goal.returns
 unfolding past_decoding
 returns c =
     let channel = is_bits 10 {x = c.args.word} (omega arith) in
     let h = is_mask 9 (is_shr 1 (is_xor channel (is_shl 1 channel))) in
     let l = is_shr 9 channel in
-    (λ s. past_is _ refl refl h l, bounded_is _ refl refl h l)
-
-pub settle-spec : {M : Type 1} → statement M
-settle-spec = tie.close (tie.spec returns)
+    record { past = λ s. past_is _ refl refl h l; bounded = bounded_is _ refl refl h l }
