@@ -1,12 +1,11 @@
 -- The two spaces of a line: which offsets lie in them, and what is wrong there and elsewhere. Assumes nothing.
 use Prim.Native.Nat.{ℕ, ◌+◌, ◌-◌, ◌<◌, ◌≤◌}
 use mathlib.Core.Path.{◌≡◌, refl, sym, ◌∙◌}
-use mathlib.Core.Bool.{Bool, true, false, cond, true≢false}
+use mathlib.Core.Bool.{true, false, true≢false}
 use native.Mathlib.Omega.{arith}
-use lib.Dec.{ltb, leb, eqb}
+use lib.Dec.{ltb, eqb}
 use borrow.Author.Tests.{ltb-true, ltb-false, le-ltb, lt-ltb, le-leb, lt-leb}
 use Rattle.refusal.proofs.Cases.{by_test, by_cond}
-use Rattle.refusal.proofs.Firsts.{first_none, first_none_back}
 use Rattle.packets.specs.declared.due.What as packet
 use Rattle.packets.specs.Due as spaceDue
 use Rattle.packets.specs.Fault as spaceFault
@@ -15,9 +14,9 @@ use Rattle.system.proofs.Laws.{sav_low}
 use Rattle.system.specs.declared.due.Due.{Due}
 use Rattle.system.specs.Due.{flags_of}
 use Rattle.line.specs.declared.What.{What}
-use Rattle.line.specs.declared.What.TheVariants.{Ones, Zeros, Fourth, Fill, Sample}
-use Rattle.line.specs.Offsets.{code_at, fill_at, due_at}
-use Rattle.line.specs.Fault.{in_space, space_start, space_stop, Wanted, within, apart, wanted_at, fault_wanted, fault_where, fault_of}
+use Rattle.line.specs.declared.What.TheVariants.{Ones, Zeros, Fourth, Sample}
+use Rattle.line.specs.Offsets.{due_at}
+use Rattle.line.specs.Fault.{in_space, space_start, space_stop, Wanted, within, apart, wanted_at, fault_where, fault_of}
 use Rattle.line.proofs.Dues.{due_eav, due_sav, due_sample}
 
 -- ---- which offsets lie in a space

@@ -1,25 +1,22 @@
 -- The line that is written of what it carries: its words in and outside the spaces, and what its spaces answer. Assumes nothing.
 use Prim.Native.Nat.{ℕ, ◌+◌, ◌-◌, ◌%◌, ◌<◌, ◌≤◌}
-use mathlib.Core.Path.{◌≡◌, refl, sym, ap, ◌∙◌}
-use mathlib.Core.List.{List, []}
+use mathlib.Core.Path.{◌≡◌, sym, ap, ◌∙◌}
+use mathlib.Core.List.{List}
 use mathlib.Core.Bool.{true, false, cond, ◌&&◌, true≢false}
 use native.Mathlib.Omega.{arith}
 use lib.Dec.{ltb, leb, eqb}
 use lib.ListN.{length, get_or}
-use borrow.Author.Tests.{lt-ltb, le-ltb, le-leb, lt-leb, ltb-true, ltb-false, leb-true, leb-false}
-use Rattle.refusal.proofs.Cases.{by_test, by_cond}
-use Rattle.packets.specs.declared.Space.{Space}
+use borrow.Author.Tests.{lt-ltb, le-ltb, le-leb, lt-leb, ltb-true, ltb-false}
+use Rattle.refusal.proofs.Cases.{by_test}
 use Rattle.packets.specs.Packet.{fill_word, Stands}
-use Rattle.packets.specs.Fault.{word_at, space_to}
 use Rattle.system.specs.declared.due.Due.{Due}
 use Rattle.system.specs.declared.due.FillWords.{FillWords}
 use Rattle.system.specs.Figures.{line_length, sav_offset, active_offset}
 use Rattle.system.proofs.Laws.{line_is_parts, sav_low}
 use Rattle.words.proofs.Tabs.{length_tab, get_d_tab}
-use Rattle.line.specs.Offsets.{fill_at, due_at}
+use Rattle.line.specs.Offsets.{fill_at}
 use Rattle.line.specs.Fault.{between_offset, in_space, between_space, active_space}
-use Rattle.line.specs.Samples.{Samples, Packets, Content, active_length, word_where, bare_at, laid_at, written_at, line_of}
-use Rattle.line.specs.Lengths.{active_room}
+use Rattle.line.specs.Samples.{Content, word_where, bare_at, laid_at, written_at, line_of}
 use Rattle.line.specs.Fit.{Carried}
 use Rattle.line.specs.Parts.{Proper}
 use Rattle.line.proofs.Dues.{due_space, due_blank}
