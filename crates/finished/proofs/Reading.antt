@@ -17,7 +17,6 @@ use Rattle.system.specs.declared.walk.Walk.{Walk}
 use Rattle.system.specs.Figures.{line_length, system_of}
 use Rattle.system.specs.Walk.{most_lines, line_bytes}
 use Rattle.system.proofs.Laws.{at_most_two}
-use Rattle.reader.proofs.Judged.{accepted}
 use Rattle.bytewise.specs.Bytes.{judged_bytes}
 use Rattle.bytewise.proofs.Judged.{accepted_counted}
 use Rattle.confirmation.specs.declared.Run.{Run}

@@ -1,5 +1,5 @@
 -- The promises on finishing and on the full check in steps: each is the whole, by what holds of pieces. Assumes nothing.
-use Rattle.std.proofs.Common.{ℕ, List, ◌++◌, length, drop, sym, ap, ◌∙◌, ap₂, drop_at}
+use Rattle.std.proofs.Common.{ℕ, List, ◌++◌, length, sym, ap, ◌∙◌, ap₂, drop_at}
 use mathlib.Core.List.{flatten}
 use Rattle.refusal.proofs.Firsts.{same_number}
 use Rattle.confirmation.specs.declared.Run.{Run}

@@ -1,6 +1,6 @@
 -- `finished::Finishing::next` meets its contract: of a clean line nothing is put, and of another its entry, between what stands before it and
 -- behind it. Assumes nothing.
-use Rattle.std.proofs.Common.{◌≡◌, ℕ, ◌+◌, ◌-◌, ◌%◌, ◌^◌, ◌≤◌, List, ◌++◌, length, take, drop, sym, ap, ◌∙◌, ap₂, arith, length-drop, take-append-drop, length-take-le, rules, eq-eqb, ne_eqb}
+use Rattle.std.proofs.Common.{◌≡◌, ℕ, ◌+◌, ◌-◌, ◌%◌, ◌^◌, ◌≤◌, List, ◌++◌, length, take, drop, sym, ap, ◌∙◌, ap₂, arith, length-drop, take-append-drop, length-take-le, eq-eqb, ne_eqb}
 use Rattle.refusal.specs.Answer.{none}
 use Rattle.refusal.proofs.Firsts.{same_number, written_accepted}
 use Rattle.timing.specs.Report.{repairs_of}
@@ -14,8 +14,7 @@ use Rattle.index.specs.Parts.{room_refusal, entry_after}
 use Rattle.finished.specs.declared.Finishing.{Finishing}
 use Rattle.finished.specs.Finish.{line_repairs, line_adds, counted_in, finished_next, room_after}
 use Rattle.finished.proofs.Follows.{adds_none, adds_entry, counts_none, entry_long}
-use Rattle.finished.proofs.Finishing.next.Statement.{statement}
-use Rattle.finished.proofs.Finishing.next.Tie as tie
+use Rattle.finished.proofs.Finishing.next.Goals as goal
 
 -- an entry into the room for it
 entry_put : (e : Entry) (part : List ℕ) → length part ≡ entry_length → entry_after e part ≡ entry_bytes e
@@ -65,68 +64,16 @@ module _ (f : Finishing) (line room : List ℕ) (at : ℕ) (judgement : Judgemen
         ),
       )
 
-judge-requires : tie.Need-judge-requires
-judge-requires c κs = search rules
+pub returns-then-repairs-eq0 : goal.returns-then-repairs-eq0
+returns-then-repairs-eq0 c =
+    let both = let a = c.args in
+    clean a.self a.line.now a.room.now a.at c.judge-judgement.result _ _ c.judge-judgement.ensures c.judged-after.ensures
+    c.repairs-repairs.ensures c.if-repairs-eq0.true in
+    record { state = both.0; put = both.1.0; room = both.1.1 }
 
-repairs-requires : tie.Need-repairs-requires
-repairs-requires c κs = search rules
-
-judged-requires : tie.Need-judged-requires
-judged-requires c κs = search rules
-
-returns : tie.Need-returns
+pub returns : goal.returns
 returns c =
-    let told = c.before.before in
-    let judge = told.before in
-    let a = judge.before.before.before.before.before.args in
-    clean a.self a.line.now a.room.now a.at judge.judge.result _ _ judge.judge.ensures c.before.judged.ensures
-    told.repairs.ensures c.if1.true
-
-add-end : tie.Need-overflow-add-end
-add-end c = search rules
-
-sub-put : tie.Need-overflow-sub-put
-sub-put c = search rules
-
-part-put-start : tie.Need-slice-bounds-put-start
-part-put-start c = search rules
-
-part-put-end : tie.Need-slice-bounds-put-end
-part-put-end c = search rules
-
-put-requires : tie.Need-put-requires
-put-requires c κs = search rules
-
-wrapping-add-u32-requires : tie.Need-wrapping-add-u32-requires
-wrapping-add-u32-requires c κs = search rules
-
-same_length : tie.Need-same-length
-same_length c = search rules
-
-returns-2 : tie.Need-returns-2
-returns-2 c =
-    let put = c.before.before.before in
-    let i = put.before.before in
-    let told = i.before.before in
-    let judge = told.before in
-    let start = judge.before.before.before.before.before in
-    let a = start.args in
-    unclean a.self a.line.now a.room.now a.at judge.judge.result _ _ judge.judge.ensures i.before.judged.ensures
-    told.repairs.ensures _ _ i.if1.false c.wrapping-add-u32.ensures start.requires put.put.ensures.1
-
-pub next-spec : {M : Type 1} → statement M
-next-spec =
-    tie.close
-    (tie.spec
-    judge-requires
-    repairs-requires
-    judged-requires
-    returns
-    add-end
-    sub-put
-    part-put-start
-    part-put-end
-    put-requires
-    wrapping-add-u32-requires
-    same_length
-    returns-2)
+    let both = let a = c.args in
+    unclean a.self a.line.now a.room.now a.at c.judge-judgement.result _ _ c.judge-judgement.ensures c.judged-after.ensures
+    c.repairs-repairs.ensures _ _ c.if-repairs-eq0.false c.wrapping_add_u32.ensures.value c.requires c.put.ensures.room in
+    record { state = both.0; put = both.1.0; room = both.1.1 }
