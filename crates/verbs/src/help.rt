@@ -93,207 +93,148 @@ pub(crate) fn print_usage(host: &mut Host, output: i32, verb: &[u8]) -> bool {
     }
 }
 
-fn line(host: &mut Host, text: &[u8]) -> bool {
-    host.write_all(OUTPUT, text) & host.write_all(OUTPUT, b"\n")
+// Writes lines. True where all of them were written.
+fn lines(host: &mut Host, texts: &[&[u8]]) -> bool {
+    let mut is_written = true;
+    for text in texts {
+        is_written = is_written & host.write_all(OUTPUT, text) & host.write_all(OUTPUT, b"\n");
+    }
+    is_written
 }
 
 fn print_general(host: &mut Host) -> bool {
-    line(
+    lines(
         host,
-        b"  confirm      whether recordings read as programmes that were written",
-    ) & line(
-        host,
-        b"  record       v210 rows into a recording, or into a row of them in a folder",
-    ) & line(host, b"  extract      the v210 rows of a recording")
-        & line(
-            host,
+        &[
+            b"  confirm      whether recordings read as programmes that were written",
+            b"  record       v210 rows into a recording, or into a row of them in a folder",
+            b"  extract      the v210 rows of a recording",
             b"  packets      a list of the ancillary packets in a recording",
-        )
-        & line(
-            host,
             b"  finish       a recording into a file that answers from its end",
-        )
-        & line(
-            host,
             b"  ask          whether lines of a finished file are all clean, from its end",
-        )
-        & line(
-            host,
             b"  check        whether all lines of a finished file bear that answer out",
-        )
-        & line(
-            host,
             b"  unfinish     the recording that a finished file was made of",
-        )
-        & line(
-            host,
             b"  scramble     words as they go over the serial channel",
-        )
-        & line(host, b"  descramble   the words that scramble was given")
-        & line(host, b"  help [VERB]  this text, or a verb's")
-        & line(
-            host,
+            b"  descramble   the words that scramble was given",
+            b"  help [VERB]  this text, or a verb's",
             b"Status: 0 where all was taken and written, 1 where something was refused,",
-        )
-        & line(
-            host,
             b"2 where the system failed or the use is wrong. More: man fiskrogn",
-        )
+        ],
+    )
 }
 
 fn print_confirm(host: &mut Host) -> bool {
-    line(
+    lines(
         host,
-        b"One recording (with no name that on standard input) gives five lines, of which",
-    ) & line(
-        host,
-        b"RESULT 0 0 0 is accepted and another RESULT is number, line and place of the",
-    ) & line(
-        host,
-        b"refusal. Several give a line each, and totals. A folder is one programme, in",
-    ) & line(
-        host,
-        b"recordings 0001.rec and on. A recording cut between two lines is accepted:",
-    ) & line(host, b"compare LINES with what was recorded.")
+        &[
+            b"One recording (with no name that on standard input) gives five lines, of which",
+            b"RESULT 0 0 0 is accepted and another RESULT is number, line and place of the",
+            b"refusal. Several give a line each, and totals. A folder is one programme, in",
+            b"recordings 0001.rec and on. A recording cut between two lines is accepted:",
+            b"compare LINES with what was recorded.",
+        ],
+    )
 }
 
 fn print_record(host: &mut Host) -> bool {
-    line(
+    lines(
         host,
-        b"Takes v210 rows of 720 pixels from standard input, those of the V = 0 lines in",
-    ) & line(
-        host,
-        b"line order: 487 a frame of 525, 576 of 625. A recording has at most 10000000",
-    ) & line(
-        host,
-        b"lines: 10 minutes 40 seconds of 625, 10 minutes 35 seconds of 525. With --into",
-    ) & line(
-        host,
-        b"the next goes on by itself: FOLDER/0001.rec and so on, cut between frames,",
-    ) & line(
-        host,
-        b"with --frames after at most N of them. With --packets each line gets the packets",
-    ) & line(
-        host,
-        b"that FILE has for it, as extract --packets writes it, and after the last row",
-    ) & line(
-        host,
-        b"lines go on as far as packets need. What FILE has for no line is refused.",
-    ) & line(
-        host,
-        b"With --fall, for old cameras of 525, V of the first field falls at LINE, 10 to",
-    ) & line(
-        host,
-        b"20, and of the second 263 lines later. A frame then has 527 - 2 * LINE rows: 487",
-    ) & line(
-        host,
-        b"with 20, as without the option, and 507 with 10. 625 ignores LINE.",
+        &[
+            b"Takes v210 rows of 720 pixels from standard input, those of the V = 0 lines in",
+            b"line order: 487 a frame of 525, 576 of 625. A recording has at most 10000000",
+            b"lines: 10 minutes 40 seconds of 625, 10 minutes 35 seconds of 525. With --into",
+            b"the next goes on by itself: FOLDER/0001.rec and so on, cut between frames,",
+            b"with --frames after at most N of them. With --packets each line gets the packets",
+            b"that FILE has for it, as extract --packets writes it, and after the last row",
+            b"lines go on as far as packets need. What FILE has for no line is refused.",
+            b"With --fall, for old cameras of 525, V of the first field falls at LINE, 10 to",
+            b"20, and of the second 263 lines later. A frame then has 527 - 2 * LINE rows: 487",
+            b"with 20, as without the option, and 507 with 10. 625 ignores LINE.",
+        ],
     )
 }
 
 fn print_extract(host: &mut Host) -> bool {
-    line(
+    lines(
         host,
-        b"Writes the v210 rows of the lines whose own V is 0 to standard output, up to the",
-    ) & line(
-        host,
-        b"first refusal, and says what confirm says on standard error. With no name it",
-    ) & line(
-        host,
-        b"reads standard input. A folder is one programme, in recordings 0001.rec and on.",
-    ) & line(
-        host,
-        b"With --packets the ancillary packets of all lines, captions among them, go to",
-    ) & line(
-        host,
-        b"FILE, which is made; one that holds something is not touched.",
+        &[
+            b"Writes the v210 rows of the lines whose own V is 0 to standard output, up to the",
+            b"first refusal, and says what confirm says on standard error. With no name it",
+            b"reads standard input. A folder is one programme, in recordings 0001.rec and on.",
+            b"With --packets the ancillary packets of all lines, captions among them, go to",
+            b"FILE, which is made; one that holds something is not touched.",
+        ],
     )
 }
 
 fn print_packets(host: &mut Host) -> bool {
-    line(
+    lines(
         host,
-        b"Lists the ancillary packets of a recording, a line of text for each:",
-    ) & line(host, b"    0 21 between 61 01 73")
-        & line(
-            host,
+        &[
+            b"Lists the ancillary packets of a recording, a line of text for each:",
+            b"    0 21 between 61 01 73",
             b"The line's ordinal from 0 and its number, the space (between EAV and SAV, or",
-        )
-        & line(
-            host,
             b"active part), the two identifiers in hexadecimal, the count of user words. It",
-        )
-        & line(
-            host,
             b"reads as extract does, and says what confirm says on standard error.",
-        )
+        ],
+    )
 }
 
 fn print_finish(host: &mut Host) -> bool {
-    line(
+    lines(
         host,
-        b"Makes a finished file of a recording (with no name that on standard input): its",
-    ) & line(
-        host,
-        b"lines, an index of those that were not clean, and a trailer. Says system, start,",
-    ) & line(
-        host,
-        b"lines and unclean lines: keep system and start, which the file has not. A refused",
-    ) & line(
-        host,
-        b"recording leaves no finished file, and a file that is there is not touched.",
+        &[
+            b"Makes a finished file of a recording (with no name that on standard input): its",
+            b"lines, an index of those that were not clean, and a trailer. Says system, start,",
+            b"lines and unclean lines: keep system and start, which the file has not. A refused",
+            b"recording leaves no finished file, and a file that is there is not touched.",
+        ],
     )
 }
 
 fn print_ask(host: &mut Host) -> bool {
-    line(
+    lines(
         host,
-        b"Tells whether lines A to B, ordinals from 0 and both included, are all clean: had",
-    ) & line(
-        host,
-        b"no repaired code. Reads the trailer and the index alone, however many lines there",
-    ) & line(
-        host,
-        b"are. What it tells is what reading every line would, where check finds the index",
-    ) & line(
-        host,
-        b"to be theirs. Status: 0 for all clean, 1 for not, 2 where the file is refused (19,",
-    ) & line(
-        host,
-        b"or 20 for lines that it has not) or could not be read.",
+        &[
+            b"Tells whether lines A to B, ordinals from 0 and both included, are all clean: had",
+            b"no repaired code. Reads the trailer and the index alone, however many lines there",
+            b"are. What it tells is what reading every line would, where check finds the index",
+            b"to be theirs. Status: 0 for all clean, 1 for not, 2 where the file is refused (19,",
+            b"or 20 for lines that it has not) or could not be read.",
+        ],
     )
 }
 
 fn print_check(host: &mut Host) -> bool {
-    line(
+    lines(
         host,
-        b"Reads every line of a finished file and tells whether all are accepted and the",
-    ) & line(
-        host,
-        b"index is theirs, or the first that is refused, or the first where the index",
-    ) & line(
-        host,
-        b"differs. Status: 0 for yes, 1 for no, 2 where the file is refused or could not",
-    ) & line(host, b"be read.")
+        &[
+            b"Reads every line of a finished file and tells whether all are accepted and the",
+            b"index is theirs, or the first that is refused, or the first where the index",
+            b"differs. Status: 0 for yes, 1 for no, 2 where the file is refused or could not",
+            b"be read.",
+        ],
+    )
 }
 
 fn print_unfinish(host: &mut Host) -> bool {
-    line(
+    lines(
         host,
-        b"Writes a finished file's lines behind a header to standard output: the recording",
-    ) & line(
-        host,
-        b"that it was made of, as confirm and extract take it. Status: 2 where the file is",
-    ) & line(host, b"refused or could not be read.")
+        &[
+            b"Writes a finished file's lines behind a header to standard output: the recording",
+            b"that it was made of, as confirm and extract take it. Status: 2 where the file is",
+            b"refused or could not be read.",
+        ],
+    )
 }
 
 fn print_coder(host: &mut Host) -> bool {
-    line(
+    lines(
         host,
-        b"Reads words of 16 bits, low byte first, from standard input, and writes such",
-    ) & line(
-        host,
-        b"words to standard output. A word over 1023 is refused.",
+        &[
+            b"Reads words of 16 bits, low byte first, from standard input, and writes such",
+            b"words to standard output. A word over 1023 is refused.",
+        ],
     )
 }
 
