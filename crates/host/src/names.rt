@@ -133,3 +133,45 @@ impl Host {
         self.went(done)
     }
 }
+
+#[cfg(test)]
+mod tests {
+    use super::*;
+    use crate::MISSING;
+
+    #[test]
+    fn a_names_last_six_bytes_become_letters(rt: HostRuntime) {
+        let mut name = *b"x.XXXXXX";
+        put_letters(&mut name, &[0, 9, 10, 35, 36, 61]);
+        assert!(rt; name == *b"x.09AZaz");
+    }
+
+    #[test]
+    fn a_file_that_is_made_is_read_and_removed(rt: HostRuntime) {
+        let mut host = Host::new(rt);
+        let mut name = *b"host.XXXXXX";
+        let file = host.create_temporary(&mut name);
+        assert!(rt; 0 <= file);
+        assert!(rt; host.write_all(file, b"0123456789"));
+        assert!(rt; host.seek_end(file) == 10);
+        let mut buffer = [0u8; 4];
+        assert!(rt; host.read_at(file, &mut buffer, 7) == 3);
+        assert!(rt; buffer == *b"789\0");
+        assert!(rt; host.rewind(file));
+        assert!(rt; host.read(file, &mut buffer) == 4);
+        assert!(rt; buffer == *b"0123");
+        assert!(rt; host.close(file));
+        assert!(rt; host.create(&name) == -1);
+        assert!(rt; host.error() == THERE);
+        assert!(rt; host.remove(&name));
+        assert!(rt; host.open_read(&name) == -1);
+        assert!(rt; host.error() == MISSING);
+    }
+
+    #[test]
+    fn a_name_that_is_no_text_opens_nothing(rt: HostRuntime) {
+        let mut host = Host::new(rt);
+        assert!(rt; host.open_read(b"\xff") == -1);
+        assert!(rt; host.error() == NO_TEXT);
+    }
+}

@@ -37,3 +37,25 @@ impl Host {
         self.write_all(ERRORS, b"\n");
     }
 }
+
+#[cfg(test)]
+mod tests {
+    use super::*;
+
+    #[test]
+    fn errors_are_told_in_the_systems_words(rt: HostRuntime) {
+        let mut text = [0u8; 128];
+        let size = put_words(2, &mut text);
+        assert!(rt; &text[..size] == b"No such file or directory".as_slice());
+        let size = put_words(27, &mut text);
+        assert!(rt; &text[..size] == b"File too large".as_slice());
+    }
+
+    #[test]
+    fn a_text_without_a_number_stays_whole(rt: HostRuntime) {
+        assert!(rt; bare(b"text") == 4);
+        assert!(rt; bare(b"") == 0);
+        assert!(rt; bare(b"(1)") == 0);
+        assert!(rt; bare(b"text (1)") == 4);
+    }
+}
