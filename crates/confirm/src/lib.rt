@@ -10,6 +10,7 @@ ghost use Rattle.confirm.specs.Turn.{reached_of, turn_of, read_of};
 
 use confirmation::Run;
 use console::Read;
+use host::Host;
 use intake::Told;
 
 // How many lines the buffer holds: a whole number, so that no bytes are ever moved. A live pipe's lines are judged as they come.
@@ -94,16 +95,16 @@ fn counted(run: Run, at: usize, have: usize, got: isize, buffer: &[u8]) -> Ready
 }
 
 // Reads once behind the bytes at..have of the buffer.
-fn turn(input: i32, run: Run, at: usize, have: usize, buffer: &mut [u8]) -> Ready
+fn turn(host: &mut Host, input: i32, run: Run, at: usize, have: usize, buffer: &mut [u8]) -> Ready
     requires { (at ≤ have) × (have ≤ length buffer.old) }
     ensures { (result.at ≤ result.have) × (result.have ≤ length buffer.new) }
 {
-    let got = libc::read(input, &mut buffer[have..]);
+    let got = host.read(input, &mut buffer[have..]);
     counted(run, at, have, got, buffer)
 }
 
 // Follows the run to the end of the input or its first refusal.
-fn follow(input: i32, run: Run, buffer: &mut [u8], is_shown: bool) -> Ready {
+fn follow(host: &mut Host, input: i32, run: Run, buffer: &mut [u8], is_shown: bool) -> Ready {
     let mut ready = Ready {
         run,
         at: 0,
@@ -113,10 +114,10 @@ fn follow(input: i32, run: Run, buffer: &mut [u8], is_shown: bool) -> Ready {
     };
     let mut turns = u64::MAX;
     while turns > 0 {
-        ready = turn(input, ready.run, ready.at, ready.have, buffer);
+        ready = turn(host, input, ready.run, ready.at, ready.have, buffer);
         turns = console::turns_left(turns, ready.done);
         let next = ready.run;
-        console::show_turn(is_shown, turns, next.walk);
+        console::show_turn(host, is_shown, turns, next.walk);
     }
     ready
 }
@@ -136,22 +137,22 @@ fn come_to(ready: Ready) -> Read
 
 // The lines of a recording behind its header, to the end of the input or the first refusal, by way of a buffer that holds LINES_HELD of
 // the longer lines and is cut to a whole number of the run's.
-fn confirm_by(input: i32, run: Run, buffer: &mut [u8]) -> Read
+fn confirm_by(host: &mut Host, input: i32, run: Run, buffer: &mut [u8]) -> Read
     requires { 96 * line_length Lines625 ≤ length buffer.old }
 {
     let walk = run.walk;
     let size = LINES_HELD * walk.line_bytes();
-    let is_shown = console::is_shown();
-    let reached = follow(input, run, &mut buffer[0..size], is_shown);
-    console::end_turns(is_shown);
+    let is_shown = console::is_shown(host);
+    let reached = follow(host, input, run, &mut buffer[0..size], is_shown);
+    console::end_turns(host, is_shown);
     come_to(reached)
 }
 
 // Confirms a recording whose header was read.
-pub fn confirm(input: i32, run: Run) -> Read {
+pub fn confirm(host: &mut Host, input: i32, run: Run) -> Read {
     if run.number != 0 {
         return Read::ended(run);
     }
     let mut buffer = [0u8; ROOM];
-    confirm_by(input, run, &mut buffer)
+    confirm_by(host, input, run, &mut buffer)
 }

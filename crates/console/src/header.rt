@@ -3,6 +3,7 @@ ghost use Rattle.std.specs.Prelude.{◌≡◌, ◌%◌, [], ◌∷◌, length};
 ghost use Rattle.words.specs.Bytes.{bytes_of};
 ghost use Rattle.confirmation.specs.Run.{header_length};
 
+use host::Host;
 use system::Walk;
 
 // A header: the system and the first line as words.
@@ -17,8 +18,8 @@ fn fill_header(walk: Walk, header: &mut [u8])
 }
 
 // Writes the header of a recording that begins with this walk. True where all of it was written.
-pub fn put_header(output: i32, walk: Walk) -> bool {
+pub fn put_header(host: &mut Host, output: i32, walk: Walk) -> bool {
     let mut header = [0u8; 4];
     fill_header(walk, &mut header);
-    io::write_all(output, &header)
+    host.write_all(output, &header)
 }

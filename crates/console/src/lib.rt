@@ -12,8 +12,8 @@ ghost use Rattle.console.specs.Status.{code_of, ended_of, unread_of, begun_read}
 
 use confirmation::{Outcome, Run, Totals};
 pub use header::put_header;
+use host::{ERRORS, Host, INPUT, OUTPUT};
 use intake::Filled;
-use libc::{STDERR_FILENO, STDIN_FILENO, STDOUT_FILENO};
 pub use name::{put, say_name};
 pub use refused::{say_place, say_refused, say_refused_file};
 use std::num::wrapping_add_u64;
@@ -48,12 +48,12 @@ impl Status {
         }
     }
 
-    // Says what the system failed in, right after it did. With no name it was standard input.
-    pub fn say_failure(self, verb: &[u8], name: &[u8]) {
+    // Says what the system failed in, before another call fails. With no name it was standard input.
+    pub fn say_failure(self, host: &mut Host, verb: &[u8], name: &[u8]) {
         match self {
-            Status::Unread => say_unread(verb, name),
-            Status::Shortened => say_shortened(verb, name),
-            Status::Unwritten => say_unwritten(verb),
+            Status::Unread => say_unread(host, verb, name),
+            Status::Shortened => say_shortened(host, verb, name),
+            Status::Unwritten => say_unwritten(host, verb),
             _ => {}
         }
     }
@@ -112,30 +112,30 @@ struct From {
 }
 
 // The place so many bytes behind an offset. No file has as many bytes as this wraps at.
-fn position(offset: u64, have: usize) -> i64 {
-    (wrapping_add_u64(offset, have as u64) % (1 << 62)) as i64
+fn position(offset: u64, have: usize) -> u64 {
+    wrapping_add_u64(offset, have as u64) % (1 << 62)
 }
 
 // Reads once into what is left of a buffer.
-fn fill_on(input: i32, from: From, have: usize, buffer: &mut [u8]) -> Filled
+fn fill_on(host: &mut Host, input: i32, from: From, have: usize, buffer: &mut [u8]) -> Filled
     requires { have ≤ length buffer.old }
     ensures { (result.have ≤ length buffer.new) × (result.done ≡ false → have < result.have) }
 {
     if from.is_offset {
-        let got = libc::pread(input, &mut buffer[have..], position(from.offset, have));
+        let got = host.read_at(input, &mut buffer[have..], position(from.offset, have));
         return filled_by(got, have, buffer);
     }
-    let got = libc::read(input, &mut buffer[have..]);
+    let got = host.read(input, &mut buffer[have..]);
     filled_by(got, have, buffer)
 }
 
 // Reads until the buffer is full, the input ends or a read fails: `Filled::after` says what each read comes to.
-fn fill_from(input: i32, from: From, buffer: &mut [u8]) -> Filled
+fn fill_from(host: &mut Host, input: i32, from: From, buffer: &mut [u8]) -> Filled
     ensures { result.have ≤ length buffer.new }
 {
     let mut have: usize = 0;
     while have < buffer.len() {
-        let filled = fill_on(input, from, have, buffer);
+        let filled = fill_on(host, input, from, have, buffer);
         if filled.done {
             return filled;
         }
@@ -149,25 +149,25 @@ fn fill_from(input: i32, from: From, buffer: &mut [u8]) -> Filled
 }
 
 // Fills a buffer, as far as the input goes.
-pub fn fill(input: i32, buffer: &mut [u8]) -> Filled
+pub fn fill(host: &mut Host, input: i32, buffer: &mut [u8]) -> Filled
     ensures { result.have ≤ length buffer.new }
 {
     let from = From {
         is_offset: false,
         offset: 0,
     };
-    fill_from(input, from, buffer)
+    fill_from(host, input, from, buffer)
 }
 
 // Fills a buffer from an offset of a file on, as far as the file goes.
-pub fn fill_at(input: i32, offset: u64, buffer: &mut [u8]) -> Filled
+pub fn fill_at(host: &mut Host, input: i32, offset: u64, buffer: &mut [u8]) -> Filled
     ensures { result.have ≤ length buffer.new }
 {
     let from = From {
         is_offset: true,
         offset,
     };
-    fill_from(input, from, buffer)
+    fill_from(host, input, from, buffer)
 }
 
 // What a header comes to, as far as it was filled.
@@ -184,61 +184,61 @@ fn begun(header: &[u8], filled: Filled) -> Read
 }
 
 // Reads a recording's header.
-pub fn begin(input: i32) -> Read {
+pub fn begin(host: &mut Host, input: i32) -> Read {
     let mut header = [0u8; 4];
-    let filled = fill(input, &mut header);
+    let filled = fill(host, input, &mut header);
     begun(&header, filled)
 }
 
 // Writes some text and a number. True where all of it was written.
-pub fn say(output: i32, text: &[u8], number: u64) -> bool {
-    if io::write_all(output, text) {
-        return io::print_decimal(output, number);
+pub fn say(host: &mut Host, output: i32, text: &[u8], number: u64) -> bool {
+    if host.write_all(output, text) {
+        return host.print_decimal(output, number);
     }
     false
 }
 
 // Writes what ends one of the five numbers, and the next with its name.
-fn say_next(output: i32, between: &[u8], text: &[u8], number: u64) -> bool {
-    io::write_all(output, between) && say(output, text, number)
+fn say_next(host: &mut Host, output: i32, between: &[u8], text: &[u8], number: u64) -> bool {
+    host.write_all(output, between) && say(host, output, text, number)
 }
 
 // The first four of the confirming program's five lines, with something else in place of the ends of lines.
-fn print_counts(output: i32, outcome: Outcome, between: &[u8]) -> bool {
-    let mut is_written = say(output, b"SYSTEM ", outcome.system as u64);
-    is_written = is_written & say_next(output, between, b"START ", outcome.start as u64);
-    is_written = is_written & say_next(output, between, b"LINES ", outcome.lines as u64);
-    is_written & say_next(output, between, b"REPAIRS ", outcome.repairs as u64)
+fn print_counts(host: &mut Host, output: i32, outcome: Outcome, between: &[u8]) -> bool {
+    let mut is_written = say(host, output, b"SYSTEM ", outcome.system as u64);
+    is_written = is_written & say_next(host, output, between, b"START ", outcome.start as u64);
+    is_written = is_written & say_next(host, output, between, b"LINES ", outcome.lines as u64);
+    is_written & say_next(host, output, between, b"REPAIRS ", outcome.repairs as u64)
 }
 
 // And the fifth.
-fn print_result(output: i32, outcome: Outcome, between: &[u8]) -> bool {
-    let mut is_written = say_next(output, between, b"RESULT ", outcome.number as u64);
-    is_written = is_written & say(output, b" ", outcome.line as u64);
-    is_written = is_written & say(output, b" ", outcome.place as u64);
-    is_written & io::write_all(output, between)
+fn print_result(host: &mut Host, output: i32, outcome: Outcome, between: &[u8]) -> bool {
+    let mut is_written = say_next(host, output, between, b"RESULT ", outcome.number as u64);
+    is_written = is_written & say(host, output, b" ", outcome.line as u64);
+    is_written = is_written & say(host, output, b" ", outcome.place as u64);
+    is_written & host.write_all(output, between)
 }
 
-fn print_numbers(output: i32, outcome: Outcome, between: &[u8]) -> bool {
-    let is_written = print_counts(output, outcome, between);
-    is_written & print_result(output, outcome, between)
+fn print_numbers(host: &mut Host, output: i32, outcome: Outcome, between: &[u8]) -> bool {
+    let is_written = print_counts(host, output, outcome, between);
+    is_written & print_result(host, output, outcome, between)
 }
 
 // Writes the confirming program's five lines. True where all of them were written.
-pub fn print_outcome(output: i32, outcome: Outcome) -> bool {
-    print_numbers(output, outcome, b"\n")
+pub fn print_outcome(host: &mut Host, output: i32, outcome: Outcome) -> bool {
+    print_numbers(host, output, outcome, b"\n")
 }
 
 // Writes the same on one line, and the recording's name.
-pub fn print_row(output: i32, outcome: Outcome, name: &[u8]) -> bool {
-    let is_written = print_numbers(output, outcome, b" ");
-    is_written & say_name(output, name) & io::write_all(output, b"\n")
+pub fn print_row(host: &mut Host, output: i32, outcome: Outcome, name: &[u8]) -> bool {
+    let is_written = print_numbers(host, output, outcome, b" ");
+    is_written & say_name(host, output, name) & host.write_all(output, b"\n")
 }
 
 // Writes the line of a recording that could not be read.
-pub fn print_unread(output: i32, name: &[u8]) -> bool {
-    let is_written = io::write_all(output, b"UNREAD ");
-    is_written & say_name(output, name) & io::write_all(output, b"\n")
+pub fn print_unread(host: &mut Host, output: i32, name: &[u8]) -> bool {
+    let is_written = host.write_all(output, b"UNREAD ");
+    is_written & say_name(host, output, name) & host.write_all(output, b"\n")
 }
 
 // The last digit of a number.
@@ -247,8 +247,8 @@ fn digit(number: u64) -> u8 {
 }
 
 // Writes ten-thousandths as a number with four digits behind the point.
-fn say_ten_thousandths(output: i32, text: &[u8], number: u64) -> bool {
-    let is_written = say(output, text, number / 10_000);
+fn say_ten_thousandths(host: &mut Host, output: i32, text: &[u8], number: u64) -> bool {
+    let is_written = say(host, output, text, number / 10_000);
     let digits = [
         b'.',
         digit(number / 1_000),
@@ -256,23 +256,23 @@ fn say_ten_thousandths(output: i32, text: &[u8], number: u64) -> bool {
         digit(number / 10),
         digit(number),
     ];
-    is_written & io::write_all(output, &digits)
+    is_written & host.write_all(output, &digits)
 }
 
 // Writes the sums over several recordings, on one line.
-pub fn print_totals(output: i32, totals: Totals) -> bool {
-    let mut is_written = say(output, b"FILES ", totals.files);
-    is_written = is_written & say(output, b" LINES ", totals.lines());
-    is_written = is_written & say_ten_thousandths(output, b" HOURS ", totals.hours());
-    is_written = is_written & say(output, b" REPAIRS ", totals.repairs);
-    is_written = is_written & say(output, b" REFUSED ", totals.refused);
-    is_written = is_written & say(output, b" UNREAD ", totals.unread);
-    is_written & io::write_all(output, b"\n")
+pub fn print_totals(host: &mut Host, output: i32, totals: Totals) -> bool {
+    let mut is_written = say(host, output, b"FILES ", totals.files);
+    is_written = is_written & say(host, output, b" LINES ", totals.lines());
+    is_written = is_written & say_ten_thousandths(host, output, b" HOURS ", totals.hours());
+    is_written = is_written & say(host, output, b" REPAIRS ", totals.repairs);
+    is_written = is_written & say(host, output, b" REFUSED ", totals.refused);
+    is_written = is_written & say(host, output, b" UNREAD ", totals.unread);
+    is_written & host.write_all(output, b"\n")
 }
 
 // Whether progress is shown: on a terminal only.
-pub fn is_shown() -> bool {
-    libc::isatty(STDERR_FILENO) == 1
+pub fn is_shown(host: &Host) -> bool {
+    host.is_terminal(ERRORS)
 }
 
 // How many whole pictures a walk's lines are.
@@ -284,30 +284,30 @@ fn pictures(walk: Walk) -> u32 {
 }
 
 // How far a walk is, on one line of the terminal. The repairs of this field may grow shorter, so what stood behind them is cleared.
-pub fn show(walk: Walk) {
-    say(STDERR_FILENO, b"\rlines ", walk.lines as u64);
-    say(STDERR_FILENO, b" pictures ", pictures(walk) as u64);
-    say(STDERR_FILENO, b" repairs ", walk.repairs as u64);
-    say(STDERR_FILENO, b" in this field ", walk.tally as u64);
-    io::write_all(STDERR_FILENO, b"\x1b[K");
+pub fn show(host: &mut Host, walk: Walk) {
+    say(host, ERRORS, b"\rlines ", walk.lines as u64);
+    say(host, ERRORS, b" pictures ", pictures(walk) as u64);
+    say(host, ERRORS, b" repairs ", walk.repairs as u64);
+    say(host, ERRORS, b" in this field ", walk.tally as u64);
+    host.write_all(ERRORS, b"\x1b[K");
 }
 
 // The same in a loop that has so many turns left: at some of them, and where progress is shown.
-pub fn show_turn(is_shown: bool, turns: u64, walk: Walk) {
+pub fn show_turn(host: &mut Host, is_shown: bool, turns: u64, walk: Walk) {
     if is_shown && turns % TURNS_A_REPORT == 0 {
-        show(walk);
+        show(host, walk);
     }
 }
 
 // Clears the line of progress.
-pub fn end_show() {
-    io::write_all(STDERR_FILENO, b"\r\x1b[K");
+pub fn end_show(host: &mut Host) {
+    host.write_all(ERRORS, b"\r\x1b[K");
 }
 
 // The same behind such a loop, where progress is shown.
-pub fn end_turns(is_shown: bool) {
+pub fn end_turns(host: &mut Host, is_shown: bool) {
     if is_shown {
-        end_show();
+        end_show(host);
     }
 }
 
@@ -324,57 +324,57 @@ pub fn turns_left(turns: u64, is_done: bool) -> u64
 }
 
 // Begins a message: whose it is, and of which recording. With no name it is standard input's.
-pub fn say_of(verb: &[u8], name: &[u8]) {
-    io::write_all(STDERR_FILENO, verb);
-    io::write_all(STDERR_FILENO, b": ");
-    say_name(STDERR_FILENO, name);
+pub fn say_of(host: &mut Host, verb: &[u8], name: &[u8]) {
+    host.write_all(ERRORS, verb);
+    host.write_all(ERRORS, b": ");
+    say_name(host, ERRORS, name);
 }
 
 // Says that a recording, or standard input, could not be read, and why.
-pub fn say_unread(verb: &[u8], name: &[u8]) {
-    say_of(verb, name);
+pub fn say_unread(host: &mut Host, verb: &[u8], name: &[u8]) {
+    say_of(host, verb, name);
     if name.len() == 0 {
-        io::write_all(STDERR_FILENO, b"the input");
+        host.write_all(ERRORS, b"the input");
     }
-    os::fail(b" could not be read");
+    host.fail(b" could not be read");
 }
 
 // Says that a file ended before the end that it had.
-fn say_shortened(verb: &[u8], name: &[u8]) {
-    say_of(verb, name);
-    io::write_all(STDERR_FILENO, b" became shorter while it was read\n");
+fn say_shortened(host: &mut Host, verb: &[u8], name: &[u8]) {
+    say_of(host, verb, name);
+    host.write_all(ERRORS, b" became shorter while it was read\n");
 }
 
 // Says that a recording could not be opened, and why.
-pub fn say_unopened(verb: &[u8], name: &[u8]) {
-    say_of(verb, name);
-    os::fail(b" could not be read");
+pub fn say_unopened(host: &mut Host, verb: &[u8], name: &[u8]) {
+    say_of(host, verb, name);
+    host.fail(b" could not be read");
 }
 
 // Says that the output could not be written, and why.
-pub fn say_unwritten(verb: &[u8]) {
-    say_of(verb, b"");
-    os::fail(b"the output could not be written");
+pub fn say_unwritten(host: &mut Host, verb: &[u8]) {
+    say_of(host, verb, b"");
+    host.fail(b"the output could not be written");
 }
 
 // On a terminal, says what is waited for.
-pub fn say_waits(verb: &[u8], what: &[u8]) {
-    if libc::isatty(STDIN_FILENO) == 1 {
-        say_of(verb, b"");
-        io::write_all(STDERR_FILENO, b"waits for ");
-        io::write_all(STDERR_FILENO, what);
-        io::write_all(STDERR_FILENO, b" on standard input\n");
+pub fn say_waits(host: &mut Host, verb: &[u8], what: &[u8]) {
+    if host.is_terminal(INPUT) {
+        say_of(host, verb, b"");
+        host.write_all(ERRORS, b"waits for ");
+        host.write_all(ERRORS, what);
+        host.write_all(ERRORS, b" on standard input\n");
     }
 }
 
 // Whether standard output is a terminal, which is then said: no rows, lines or words are written there.
-pub fn is_terminal_refused(verb: &[u8]) -> bool {
-    if libc::isatty(STDOUT_FILENO) != 1 {
+pub fn is_terminal_refused(host: &mut Host, verb: &[u8]) -> bool {
+    if !host.is_terminal(OUTPUT) {
         return false;
     }
-    say_of(verb, b"");
-    io::write_all(
-        STDERR_FILENO,
+    say_of(host, verb, b"");
+    host.write_all(
+        ERRORS,
         b"standard output is a terminal: send it to a file or a pipe\n",
     );
     true

@@ -1,8 +1,13 @@
 // Names of any bytes, on one line.
 ghost use Rattle.std.specs.Prelude.{◌≤◌, length};
 
+use host::Host;
+
 // The bytes that one byte of a name takes at most.
 const WIDEST: usize = 4;
+
+// The bytes that a name has at most.
+const LONGEST: usize = 4096;
 
 // A byte that is written as it is: no control byte, which might end the line, and no backslash, which begins another's form.
 fn is_plain(byte: u8) -> bool {
@@ -60,8 +65,8 @@ fn put_name(name: &[u8], text: &mut [u8]) -> usize
 }
 
 // Writes a name. True where all of it was written.
-pub fn say_name(output: i32, name: &[u8]) -> bool {
-    let mut text = [0u8; WIDEST * libc::PATH_MAX];
+pub fn say_name(host: &mut Host, output: i32, name: &[u8]) -> bool {
+    let mut text = [0u8; WIDEST * LONGEST];
     let length = put_name(name, &mut text);
-    io::write_all(output, &text[0..length])
+    host.write_all(output, &text[0..length])
 }

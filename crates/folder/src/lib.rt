@@ -4,6 +4,8 @@
 
 ghost use Rattle.std.specs.Prelude.{◌≡◌, ◌≤◌, length};
 
+use host::{Host, MISSING};
+
 // The most recordings that four digits number.
 pub const MOST: u32 = 9999;
 
@@ -61,62 +63,62 @@ fn name(folder: &[u8], number: u32, path: &mut [u8]) -> usize
 }
 
 // Writes a recording's name. True where all of it was written.
-pub fn say_name(output: i32, folder: &[u8], number: u32) -> bool {
+pub fn say_name(host: &mut Host, output: i32, folder: &[u8], number: u32) -> bool {
     let size = bare(folder);
-    console::say_name(output, &folder[0..size]) && io::write_all(output, &ending(number))
+    console::say_name(host, output, &folder[0..size]) && host.write_all(output, &ending(number))
 }
 
 // Opens a recording for reading.
-pub fn open(folder: &[u8], number: u32, path: &mut [u8]) -> Opened
+pub fn open(host: &mut Host, folder: &[u8], number: u32, path: &mut [u8]) -> Opened
     ensures { result.length ≤ length path.new }
 {
     let length = name(folder, number, path);
-    let file = os::open_read(&path[0..length]);
+    let file = host.open_read(&path[0..length]);
     Opened { file, length }
 }
 
 // Makes a recording that was not there, and opens it for writing.
-pub fn make(folder: &[u8], number: u32, path: &mut [u8]) -> Opened
+pub fn make(host: &mut Host, folder: &[u8], number: u32, path: &mut [u8]) -> Opened
     ensures { result.length ≤ length path.new }
 {
     let length = name(folder, number, path);
-    let file = os::create(&path[0..length]);
+    let file = host.create(&path[0..length]);
     Opened { file, length }
 }
 
 // Whether a recording is there: also one that may not be read.
-fn is_there(folder: &[u8], number: u32) -> bool {
+fn is_there(host: &mut Host, folder: &[u8], number: u32) -> bool {
     let mut path = io::buffer();
-    let opened = open(folder, number, &mut path);
+    let opened = open(host, folder, number, &mut path);
     let file = opened.file;
     if file < 0 {
-        return os::errno() != libc::ENOENT;
+        return host.error() != MISSING;
     }
-    libc::close(file);
+    host.close(file);
     true
 }
 
 // The highest number that is there, or 0.
-pub fn last(folder: &[u8]) -> u32 {
+pub fn last(host: &mut Host, folder: &[u8]) -> u32 {
     let mut number = MOST;
-    while number > 0 && !is_there(folder, number) {
+    while number > 0 && !is_there(host, folder, number) {
         number -= 1;
     }
     number
 }
 
 // Whether a name is a folder's.
-pub fn is_folder(name: &[u8]) -> bool {
+pub fn is_folder(host: &mut Host, name: &[u8]) -> bool {
     if name.len() == 0 {
         return false;
     }
     let mut path = io::buffer();
     let at = console::put(&mut path, 0, name);
     let length = console::put(&mut path, at, b"/.");
-    let file = os::open_read(&path[0..length]);
+    let file = host.open_read(&path[0..length]);
     if file < 0 {
         return false;
     }
-    libc::close(file);
+    host.close(file);
     true
 }

@@ -6,7 +6,7 @@
 ghost use Rattle.std.specs.Prelude.{◌≡◌, ◌+◌, ◌≤◌, length};
 
 use cases::{count, number};
-use libc::{STDIN_FILENO, STDOUT_FILENO};
+use host::{Host, INPUT, OUTPUT};
 
 // No answer is longer than the coder's: four numbers and its output.
 const LONGEST_ANSWER: usize = 16 + 2 * line_cases::LONGEST;
@@ -56,14 +56,14 @@ fn whole_case(bytes: &[u8]) -> usize
 }
 
 // Writes what was told where the longest answer might not fit behind it, and tells what is left to write.
-fn make_room(output: &[u8], told: usize) -> usize
+fn make_room(host: &mut Host, output: &[u8], told: usize) -> usize
     requires { told ≤ length output.now }
     ensures { result ≤ length output.now }
 {
     if LONGEST_ANSWER <= output.len() - told {
         return told;
     }
-    io::write_all(STDOUT_FILENO, &output[0..told]);
+    host.write_all(OUTPUT, &output[0..told]);
     0
 }
 
@@ -78,13 +78,13 @@ fn carry(from: usize, to: usize, input: &mut [u8])
 }
 
 // Reads more behind what is not answered yet. At the end of the input the stream is closed.
-fn refill(stream: Stream, input: &mut [u8]) -> Stream
+fn refill(host: &mut Host, stream: Stream, input: &mut [u8]) -> Stream
     requires { (stream.at ≤ stream.have) × (stream.have ≤ length input.old) }
     ensures { (result.at ≤ result.have) × (result.have ≤ length input.new) × (result.told ≡ stream.told) }
 {
     let left = stream.have - stream.at;
     carry(stream.at, stream.have, input);
-    let got = libc::read(STDIN_FILENO, &mut input[left..]);
+    let got = host.read(INPUT, &mut input[left..]);
     let more = io::count(got, &input[left..]);
     Stream {
         at: 0,
@@ -118,7 +118,7 @@ fn passed(stream: Stream, size: usize, told: usize, more: usize, room: usize) ->
 }
 
 // Answers the case that the input holds whole, or reads more.
-fn turn(stream: Stream, input: &mut [u8], output: &mut [u8]) -> Stream
+fn turn(host: &mut Host, stream: Stream, input: &mut [u8], output: &mut [u8]) -> Stream
     requires { (stream.at ≤ stream.have) × (stream.have ≤ length input.old) × (stream.told ≤ length output.old) }
     ensures { (result.at ≤ result.have) × (result.have ≤ length input.new) × (result.told ≤ length output.new) }
 {
@@ -126,16 +126,16 @@ fn turn(stream: Stream, input: &mut [u8], output: &mut [u8]) -> Stream
     let have = stream.have;
     let size = whole_case(&input[at..have]);
     if size == 0 {
-        return refill(stream, input);
+        return refill(host, stream, input);
     }
     let next = at + size;
-    let told = make_room(output, stream.told);
+    let told = make_room(host, output, stream.told);
     let more = answer_case(&input[at..next], &mut output[told..]);
     passed(stream, size, told, more, output.len())
 }
 
 // A proved loop has to end, and nothing says that the input does: the turns count down from a number that no run uses up.
-fn run(input: &mut [u8], output: &mut [u8]) {
+fn run(host: &mut Host, input: &mut [u8], output: &mut [u8]) {
     let mut stream = Stream {
         at: 0,
         have: 0,
@@ -144,15 +144,16 @@ fn run(input: &mut [u8], output: &mut [u8]) {
     };
     let mut turns = u64::MAX;
     while 0 < turns && stream.is_open {
-        stream = turn(stream, input, output);
+        stream = turn(host, stream, input, output);
         turns -= 1;
     }
     let told = stream.told;
-    io::write_all(STDOUT_FILENO, &output[0..told]);
+    host.write_all(OUTPUT, &output[0..told]);
 }
 
-fn main() {
+fn main(rt: HostRuntime) {
     let mut input = [0u8; BUFFER];
     let mut output = [0u8; BUFFER];
-    run(&mut input, &mut output);
+    let mut host = Host::new(rt);
+    run(&mut host, &mut input, &mut output);
 }

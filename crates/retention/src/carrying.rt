@@ -9,6 +9,7 @@ use crate::pieces::least;
 use crate::sink::{Sink, Taken, left_of};
 use console::Status;
 use finished::Finishing;
+use host::Host;
 use index::ENTRY_LENGTH;
 use intake::Told;
 
@@ -95,7 +96,7 @@ impl Carried {
 
     // Judges the lines of the bytes that lie ready, with so many more, and hands them on. A buffer that was taken to its end is filled from its
     // start again.
-    fn reach(self, count: usize, buffer: &[u8], room: &mut [u8]) -> Carried
+    fn reach(self, host: &mut Host, count: usize, buffer: &[u8], room: &mut [u8]) -> Carried
         requires { (self.at ≤ self.have) × (self.have + count ≤ length buffer.now) }
         ensures turn { (answers : Answers) × (result ≡ reached_of self count buffer.now (length room.old) answers) }
         ensures within { (result.at ≤ result.have) × (result.have ≤ length buffer.now) }
@@ -107,7 +108,7 @@ impl Carried {
         let end = at + made.taken;
         let put = made.put;
         let sink = self.sink;
-        let taken = sink.take(&buffer[at..end], &room[0..put]);
+        let taken = sink.take(host, &buffer[at..end], &room[0..put]);
         let finishing = made.finishing;
         if end == buffer.len() {
             return self.moved(finishing, taken, count, 0, 0);
@@ -116,7 +117,7 @@ impl Carried {
     }
 
     // What a turn makes of what a read told.
-    fn turned(self, told: Told, buffer: &[u8], room: &mut [u8]) -> Carried
+    fn turned(self, host: &mut Host, told: Told, buffer: &[u8], room: &mut [u8]) -> Carried
         requires { (self.at ≤ self.have) × (self.have ≤ length buffer.now) × WithinRoom told (length buffer.now - self.have) }
         ensures turn { (answers : Answers) × (result ≡ turn_of self told buffer.now (length room.old) answers) }
         ensures within { (result.at ≤ result.have) × (result.have ≤ length buffer.now) }
@@ -125,12 +126,12 @@ impl Carried {
         match told {
             Told::Failed => self.ended(finishing, Status::Unread),
             Told::Ended => self.close(buffer),
-            Told::Bytes { count } => self.reach(count, buffer, room),
+            Told::Bytes { count } => self.reach(host, count, buffer, room),
         }
     }
 
     // Reads once behind the bytes at..have of the buffer, at most as much as is left.
-    fn turn(self, input: i32, buffer: &mut [u8], room: &mut [u8]) -> Carried
+    fn turn(self, host: &mut Host, input: i32, buffer: &mut [u8], room: &mut [u8]) -> Carried
         requires { (self.at ≤ self.have) × (self.have ≤ length buffer.old) }
         ensures { (result.at ≤ result.have) × (result.have ≤ length buffer.new) }
     {
@@ -140,14 +141,15 @@ impl Carried {
             return self.close(buffer);
         }
         let end = have + most;
-        let got = libc::read(input, &mut buffer[have..end]);
+        let got = host.read(input, &mut buffer[have..end]);
         let told = intake::tells(got, &buffer[have..end]);
-        self.turned(told, buffer, room)
+        self.turned(host, told, buffer, room)
     }
 }
 
 // Carries lines to the end of the input, the first refusal or the first difference.
 fn carry_by(
+    host: &mut Host,
     input: i32,
     finishing: Finishing,
     sink: Sink,
@@ -155,7 +157,7 @@ fn carry_by(
     buffer: &mut [u8],
     room: &mut [u8],
 ) -> Carried {
-    let is_shown = console::is_shown();
+    let is_shown = console::is_shown(host);
     let mut carried = Carried {
         finishing,
         sink,
@@ -167,18 +169,19 @@ fn carry_by(
     };
     let mut turns = u64::MAX;
     while turns > 0 {
-        carried = carried.turn(input, buffer, room);
+        carried = carried.turn(host, input, buffer, room);
         turns = console::turns_left(turns, carried.done);
         let reached = carried.finishing;
         let run = reached.run;
-        console::show_turn(is_shown, turns, run.walk);
+        console::show_turn(host, is_shown, turns, run.walk);
     }
-    console::end_turns(is_shown);
+    console::end_turns(host, is_shown);
     carried
 }
 
 // The same with a buffer that is cut to a whole number of the run's lines.
 fn carry_in(
+    host: &mut Host,
     input: i32,
     finishing: Finishing,
     sink: Sink,
@@ -191,12 +194,26 @@ fn carry_in(
     let run = finishing.run;
     let walk = run.walk;
     let size = LINES_HELD * walk.line_bytes();
-    carry_by(input, finishing, sink, left, &mut buffer[0..size], room)
+    carry_by(
+        host,
+        input,
+        finishing,
+        sink,
+        left,
+        &mut buffer[0..size],
+        room,
+    )
 }
 
 // Carries the lines of a run, so many bytes of the input or, where that is more than it has, all of it.
-pub(crate) fn carry(input: i32, finishing: Finishing, sink: Sink, left: u64) -> Carried {
+pub(crate) fn carry(
+    host: &mut Host,
+    input: i32,
+    finishing: Finishing,
+    sink: Sink,
+    left: u64,
+) -> Carried {
     let mut buffer = [0u8; LINES_ROOM];
     let mut room = [0u8; ENTRIES_ROOM];
-    carry_in(input, finishing, sink, left, &mut buffer, &mut room)
+    carry_in(host, input, finishing, sink, left, &mut buffer, &mut room)
 }

@@ -5,6 +5,7 @@ ghost use Rattle.retention.specs.Pieces.{filled_status};
 
 use crate::File;
 use console::Status;
+use host::Host;
 use index::{Question, TRAILER_LENGTH, Trailer};
 use intake::Filled;
 use std::num::{wrapping_add_u64, wrapping_sub_u64};
@@ -64,24 +65,24 @@ pub(crate) fn least(wide: u64, size: usize) -> usize
 }
 
 // Fills a buffer with the next bytes of a part of which so many are left.
-fn fill_piece(part: Part, left: u64, buffer: &mut [u8]) -> Piece
+fn fill_piece(host: &mut Host, part: Part, left: u64, buffer: &mut [u8]) -> Piece
     ensures { (result.size ≤ length buffer.new) × (result.size ≤ left) × (1 ≤ left → 1 ≤ length buffer.old → 1 ≤ result.size) }
 {
     let size = least(left, buffer.len());
     let offset = wrapping_sub_u64(part.end, left);
-    let filled = console::fill_at(part.file, offset, &mut buffer[0..size]);
+    let filled = console::fill_at(host, part.file, offset, &mut buffer[0..size]);
     let status = filled_status(filled, size);
     Piece { size, status }
 }
 
 // Feeds a question a part of a file.
-fn feed_by(part: Part, first: Question, buffer: &mut [u8]) -> Fed
+fn feed_by(host: &mut Host, part: Part, first: Question, buffer: &mut [u8]) -> Fed
     requires { 1 ≤ length buffer.old }
 {
     let mut question = first;
     let mut left = part.size;
     while left > 0 {
-        let piece = fill_piece(part, left, buffer);
+        let piece = fill_piece(host, part, left, buffer);
         let size = piece.size;
         let status = piece.status;
         if status.code() != 0 {
@@ -96,13 +97,13 @@ fn feed_by(part: Part, first: Question, buffer: &mut [u8]) -> Fed
     }
 }
 
-fn feed(part: Part, question: Question) -> Fed {
+fn feed(host: &mut Host, part: Part, question: Question) -> Fed {
     let mut buffer = io::large_buffer();
-    feed_by(part, question, &mut buffer)
+    feed_by(host, part, question, &mut buffer)
 }
 
 // Parts behind the whole index. Of an index whose trailer does not fit nothing is read.
-pub(crate) fn read_index(file: File, parts: Parts) -> Parts {
+pub(crate) fn read_index(host: &mut Host, file: File, parts: Parts) -> Parts {
     let question = parts.question;
     if question.wrong {
         return parts;
@@ -113,7 +114,7 @@ pub(crate) fn read_index(file: File, parts: Parts) -> Parts {
         end: wrapping_add_u64(trailer.offset, question.left),
         size: question.left,
     };
-    let fed = feed(part, question);
+    let fed = feed(host, part, question);
     let after = fed.question;
     let status = fed.status;
     Parts {
@@ -132,9 +133,16 @@ fn no_parts(file: File, status: Status) -> Parts {
     }
 }
 
-fn read_trailer(file: File, length: u64, trailer: &mut [u8], a: u32, b: u32) -> Parts {
+fn read_trailer(
+    host: &mut Host,
+    file: File,
+    length: u64,
+    trailer: &mut [u8],
+    a: u32,
+    b: u32,
+) -> Parts {
     let due = least(length, trailer.len());
-    let filled = console::fill_at(file.number, length - due as u64, &mut trailer[0..due]);
+    let filled = console::fill_at(host, file.number, length - due as u64, &mut trailer[0..due]);
     let status = filled_status(filled, due);
     if status.code() != 0 {
         return no_parts(file, status);
@@ -152,33 +160,34 @@ fn length_of(end: i64) -> u64 {
 }
 
 // The parts of a finished file as far as its trailer tells them, for lines a to b.
-pub(crate) fn read_end(file: File, a: u32, b: u32) -> Parts {
-    let end = libc::lseek(file.number, 0, libc::SEEK_END);
+pub(crate) fn read_end(host: &mut Host, file: File, a: u32, b: u32) -> Parts {
+    let end = host.seek_end(file.number);
     if end < 0 {
         return no_parts(file, Status::Unread);
     }
     let mut trailer = [0u8; TRAILER_LENGTH];
-    read_trailer(file, length_of(end), &mut trailer, a, b)
+    read_trailer(host, file, length_of(end), &mut trailer, a, b)
 }
 
 // The parts of a finished file, for lines a to b.
-pub(crate) fn read_parts(file: File, a: u32, b: u32) -> Parts {
-    read_index(file, read_end(file, a, b))
+pub(crate) fn read_parts(host: &mut Host, file: File, a: u32, b: u32) -> Parts {
+    let end = read_end(host, file, a, b);
+    read_index(host, file, end)
 }
 
 // Copies a part of a file.
-fn copy_by(part: Part, output: i32, buffer: &mut [u8]) -> Status
+fn copy_by(host: &mut Host, part: Part, output: i32, buffer: &mut [u8]) -> Status
     requires { 1 ≤ length buffer.old }
 {
     let mut left = part.size;
     while left > 0 {
-        let piece = fill_piece(part, left, buffer);
+        let piece = fill_piece(host, part, left, buffer);
         let size = piece.size;
         let status = piece.status;
         if status.code() != 0 {
             return status;
         }
-        if !io::write_all(output, &buffer[0..size]) {
+        if !host.write_all(output, &buffer[0..size]) {
             return Status::Unwritten;
         }
         left -= size as u64;
@@ -186,7 +195,7 @@ fn copy_by(part: Part, output: i32, buffer: &mut [u8]) -> Status
     Status::Done
 }
 
-pub(crate) fn copy(part: Part, output: i32) -> Status {
+pub(crate) fn copy(host: &mut Host, part: Part, output: i32) -> Status {
     let mut buffer = io::large_buffer();
-    copy_by(part, output, &mut buffer)
+    copy_by(host, part, output, &mut buffer)
 }

@@ -6,6 +6,7 @@ ghost use Rattle.retention.specs.Turn.{Answers, entries_room, due_beside, behind
 use crate::pieces::{filled_status, least};
 use console::Status;
 use finished::Meeting;
+use host::Host;
 use index::ENTRY_LENGTH;
 use std::num::wrapping_add_u64;
 
@@ -64,8 +65,8 @@ impl Sink {
     }
 
     // Writes lines and their entries. True where all of it was written.
-    fn write(self, lines: &[u8], entries: &[u8]) -> bool {
-        io::write_all(self.file, lines) && io::write_all(self.beside, entries)
+    fn write(self, host: &mut Host, lines: &[u8], entries: &[u8]) -> bool {
+        host.write_all(self.file, lines) && host.write_all(self.beside, entries)
     }
 
     // The sink behind entries that met so many bytes of the index.
@@ -80,12 +81,12 @@ impl Sink {
     }
 
     // Meets entries with those of the index in their place, which are at most so many bytes, by way of room for these.
-    fn meet_by(self, entries: &[u8], most: usize, room: &mut [u8]) -> Taken
+    fn meet_by(self, host: &mut Host, entries: &[u8], most: usize, room: &mut [u8]) -> Taken
         requires { length room.old ≡ entries_room }
         ensures { (answers : Answers) × (result ≡ met_by self entries.now (due_beside self most) answers) }
     {
         let due = least(self.left, least(most as u64, room.len()));
-        let filled = console::fill_at(self.file, self.offset, &mut room[0..due]);
+        let filled = console::fill_at(host, self.file, self.offset, &mut room[0..due]);
         let status = filled_status(filled, due);
         if status.code() != 0 {
             return Taken { sink: self, status };
@@ -98,15 +99,15 @@ impl Sink {
         }
     }
 
-    fn meet(self, entries: &[u8], most: usize) -> Taken
+    fn meet(self, host: &mut Host, entries: &[u8], most: usize) -> Taken
         ensures { (answers : Answers) × (result ≡ met_by self entries.now (due_beside self most) answers) }
     {
         let mut room = [0u8; crate::carrying::ENTRIES_ROOM];
-        self.meet_by(entries, most, &mut room)
+        self.meet_by(host, entries, most, &mut room)
     }
 
     // Meets the entries of lines, where they have any.
-    fn meet_some(self, entries: &[u8]) -> Taken
+    fn meet_some(self, host: &mut Host, entries: &[u8]) -> Taken
         ensures { (answers : Answers) × (result ≡ met_some self entries.now answers) }
     {
         if entries.len() == 0 {
@@ -115,17 +116,17 @@ impl Sink {
                 status: Status::Done,
             };
         }
-        self.meet(entries, entries.len())
+        self.meet(host, entries, entries.len())
     }
 
     // Takes lines and their entries.
-    pub(crate) fn take(self, lines: &[u8], entries: &[u8]) -> Taken
+    pub(crate) fn take(self, host: &mut Host, lines: &[u8], entries: &[u8]) -> Taken
         ensures { (answers : Answers) × (result ≡ taken_by self entries.now answers) }
     {
         if self.checks {
-            return self.meet_some(entries);
+            return self.meet_some(host, entries);
         }
-        if self.write(lines, entries) {
+        if self.write(host, lines, entries) {
             return Taken {
                 sink: self,
                 status: Status::Done,
@@ -138,9 +139,9 @@ impl Sink {
     }
 
     // Behind the last line: an entry that is left in the index differs.
-    pub(crate) fn end(self) -> Taken
+    pub(crate) fn end(self, host: &mut Host) -> Taken
         ensures { (answers : Answers) × (result ≡ end_by self answers) }
     {
-        self.meet(&[], ENTRY_LENGTH)
+        self.meet(host, &[], ENTRY_LENGTH)
     }
 }

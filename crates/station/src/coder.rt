@@ -3,8 +3,8 @@ ghost use Rattle.std.specs.Prelude.{◌≡◌, ◌*◌, ◌/◌, ◌≤◌, true
 ghost use Rattle.console.specs.declared.Status.TheVariants.{Unread};
 
 use console::Status;
+use host::{ERRORS, Host, INPUT, OUTPUT};
 use intake::Filled;
-use libc::{STDERR_FILENO, STDIN_FILENO, STDOUT_FILENO};
 use serial::{Answer, State};
 use std::num::wrapping_add_u64;
 
@@ -56,18 +56,18 @@ fn refused(state: State, words: u64, number: u64) -> Stream {
     }
 }
 
-fn say_words(number: u64) -> bool {
+fn say_words(host: &mut Host, number: u64) -> bool {
     if number == 3 {
-        return io::write_all(STDERR_FILENO, b": half a word is left\n");
+        return host.write_all(ERRORS, b": half a word is left\n");
     }
-    io::write_all(STDERR_FILENO, b": it is over 1023\n")
+    host.write_all(ERRORS, b": it is over 1023\n")
 }
 
-fn say_refused(verb: &[u8], number: u64, word: u64) {
-    console::say_of(verb, b"");
-    console::say(STDERR_FILENO, b"refused ", number);
-    console::say(STDERR_FILENO, b", word ", word);
-    say_words(number);
+fn say_refused(host: &mut Host, verb: &[u8], number: u64, word: u64) {
+    console::say_of(host, verb, b"");
+    console::say(host, ERRORS, b"refused ", number);
+    console::say(host, ERRORS, b", word ", word);
+    say_words(host, number);
 }
 
 fn least(a: usize, b: usize) -> usize
@@ -129,9 +129,9 @@ fn turn_bytes(
 }
 
 // Writes words, by way of room for their bytes. True where all of them were written.
-fn write_words(words: &[u16], bytes: &mut [u8]) -> bool {
+fn write_words(host: &mut Host, words: &[u16], bytes: &mut [u8]) -> bool {
     words::to_bytes(words, bytes);
-    io::write_all(STDOUT_FILENO, bytes)
+    host.write_all(OUTPUT, bytes)
 }
 
 // How a stream goes on whose good words were written: refused where a word was not good, or half a word is left.
@@ -146,12 +146,19 @@ fn gone_on(state: State, words: u64, is_good: bool, is_odd: bool) -> Stream {
 }
 
 // What a stream comes to where its words were coded or decoded: the good ones are written.
-fn put_good(turned: Turned, words: u64, is_odd: bool, bytes: &mut [u8], out: &[u16]) -> Stream
+fn put_good(
+    host: &mut Host,
+    turned: Turned,
+    words: u64,
+    is_odd: bool,
+    bytes: &mut [u8],
+    out: &[u16],
+) -> Stream
     requires { (2 * length out.now ≤ length bytes.old) × (turned.good ≤ length out.now) }
 {
     let good = turned.good;
     let done = wrapping_add_u64(words, good as u64);
-    if write_words(&out[0..good], &mut bytes[0..2 * good]) {
+    if write_words(host, &out[0..good], &mut bytes[0..2 * good]) {
         return gone_on(turned.state, done, good == out.len(), is_odd);
     }
     ended(turned.state, done, Status::Unwritten)
@@ -159,6 +166,7 @@ fn put_good(turned: Turned, words: u64, is_odd: bool, bytes: &mut [u8], out: &[u
 
 // What a stream comes to where these bytes of it are read: its words are coded or decoded, and written.
 fn put_words(
+    host: &mut Host,
     is_coding: bool,
     stream: Stream,
     bytes: &mut [u8],
@@ -170,11 +178,12 @@ fn put_words(
     let whole = 2 * words.len();
     let is_odd = bytes.len() % 2 == 1;
     let turned = turn_bytes(is_coding, stream.state, &bytes[0..whole], words, out);
-    put_good(turned, stream.words, is_odd, bytes, out)
+    put_good(host, turned, stream.words, is_odd, bytes, out)
 }
 
 // What a turn makes of what was filled of a piece. A failed read is not the end of the input.
 fn take_filled(
+    host: &mut Host,
     is_coding: bool,
     stream: Stream,
     filled: Filled,
@@ -194,6 +203,7 @@ fn take_filled(
     }
     let count = have / 2;
     put_words(
+        host,
         is_coding,
         stream,
         &mut bytes[0..have],
@@ -204,6 +214,7 @@ fn take_filled(
 
 // Takes one piece of the input.
 fn take_piece(
+    host: &mut Host,
     is_coding: bool,
     stream: Stream,
     bytes: &mut [u8],
@@ -212,50 +223,54 @@ fn take_piece(
 ) -> Stream
     requires { (length words.old ≡ length bytes.old / 2) × (length out.old ≡ length words.old) }
 {
-    let filled = console::fill(STDIN_FILENO, bytes);
-    take_filled(is_coding, stream, filled, bytes, words, out)
+    let filled = console::fill(host, INPUT, bytes);
+    take_filled(host, is_coding, stream, filled, bytes, words, out)
 }
 
 // Shows how far a stream is, at some turns and where progress is shown.
-fn show_turn(is_shown: bool, turns: u64, words: u64) {
+fn show_turn(host: &mut Host, is_shown: bool, turns: u64, words: u64) {
     if is_shown && turns % PIECES_A_REPORT == 0 {
-        console::say(STDERR_FILENO, b"\rwords ", words);
+        console::say(host, ERRORS, b"\rwords ", words);
     }
 }
 
 // Takes pieces to the end of the input or the first refusal.
-fn take_pieces(is_coding: bool, bytes: &mut [u8], words: &mut [u16], out: &mut [u16]) -> Stream
+fn take_pieces(
+    host: &mut Host,
+    is_coding: bool,
+    bytes: &mut [u8],
+    words: &mut [u16],
+    out: &mut [u16],
+) -> Stream
     requires { (length words.old ≡ length bytes.old / 2) × (length out.old ≡ length words.old) }
 {
-    let is_shown = console::is_shown();
+    let is_shown = console::is_shown(host);
     let mut stream = open(State::fresh(), 0);
     let mut turns = u64::MAX;
     while turns > 0 {
-        stream = take_piece(is_coding, stream, bytes, words, out);
+        stream = take_piece(host, is_coding, stream, bytes, words, out);
         turns = console::turns_left(turns, stream.done);
-        show_turn(is_shown, turns, stream.words);
+        show_turn(host, is_shown, turns, stream.words);
     }
-    console::end_turns(is_shown);
+    console::end_turns(host, is_shown);
     stream
 }
 
 // Says why a stream ended before its input did.
-fn tell(verb: &[u8], stream: Stream) -> u32 {
+fn tell(host: &mut Host, verb: &[u8], stream: Stream) -> u32 {
     let status = stream.status;
     if stream.number != 0 {
-        say_refused(verb, stream.number, stream.words);
+        say_refused(host, verb, stream.number, stream.words);
     }
-    status.say_failure(verb, b"");
+    status.say_failure(host, verb, b"");
     status.code()
 }
 
 // Codes or decodes standard input to standard output, and answers the exit status.
-pub fn code_input(verb: &[u8], is_coding: bool) -> u32 {
+pub fn code_input(host: &mut Host, verb: &[u8], is_coding: bool) -> u32 {
     let mut bytes = [0u8; 2 * PIECE];
     let mut words = [0u16; PIECE];
     let mut out = [0u16; PIECE];
-    tell(
-        verb,
-        take_pieces(is_coding, &mut bytes, &mut words, &mut out),
-    )
+    let stream = take_pieces(host, is_coding, &mut bytes, &mut words, &mut out);
+    tell(host, verb, stream)
 }

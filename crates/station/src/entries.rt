@@ -8,6 +8,7 @@ ghost use Rattle.station.specs.Entries.{is_left, is_lost, is_for, with_next, nex
 
 use crate::sidecar::Descriptor;
 use captions::{Entry, HEAD_LENGTH, MOST_WORDS};
+use host::Host;
 use intake::Filled;
 use std::num::wrapping_add_u64;
 
@@ -60,8 +61,8 @@ pub(crate) fn no_entries() -> Entries
 }
 
 // The entries of a packets file.
-pub(crate) fn entries_of(file: i32) -> Entries {
-    at_start(Descriptor { number: file }).read_head()
+pub(crate) fn entries_of(host: &mut Host, file: i32) -> Entries {
+    at_start(Descriptor { number: file }).read_head(host)
 }
 
 // Whether an entry is for this space of this line.
@@ -190,10 +191,10 @@ impl Entries {
     }
 
     // Reads the next head.
-    fn read_head(self) -> Entries {
+    fn read_head(self, host: &mut Host) -> Entries {
         let file = self.file;
         let mut head = [0u8; HEAD_LENGTH];
-        let filled = console::fill(file.number, &mut head);
+        let filled = console::fill(host, file.number, &mut head);
         self.after_head(&head, filled)
     }
 
@@ -233,7 +234,7 @@ impl Entries {
     }
 
     // Takes the words of an entry by way of room for their bytes, and reads the head behind them.
-    fn take_by(self, entry: Entry, bytes: &mut [u8], words: &mut [u16]) -> Taken
+    fn take_by(self, host: &mut Host, entry: Entry, bytes: &mut [u8], words: &mut [u16]) -> Taken
         requires { (length bytes.old ≡ 2 * most_words) × (length words.old ≡ most_words) }
         ensures { result.count ≤ most_words }
     {
@@ -243,7 +244,7 @@ impl Entries {
         }
         let size = 2 * count;
         let file = self.file;
-        let filled = console::fill(file.number, &mut bytes[0..size]);
+        let filled = console::fill(host, file.number, &mut bytes[0..size]);
         let taken = filled_words(self, filled, &bytes[0..size], &mut words[0..count]);
         let behind = taken.entries;
         if !taken.whole {
@@ -253,7 +254,7 @@ impl Entries {
                 whole: false,
             };
         }
-        let next = behind.read_head();
+        let next = behind.read_head(host);
         Taken {
             entries: next,
             count,
@@ -262,16 +263,16 @@ impl Entries {
     }
 
     // The same, with room of its own.
-    fn take_entry(self, entry: Entry, words: &mut [u16]) -> Taken
+    fn take_entry(self, host: &mut Host, entry: Entry, words: &mut [u16]) -> Taken
         requires { length words.old ≡ most_words }
         ensures { result.count ≤ most_words }
     {
         let mut bytes = [0u8; 2 * MOST_WORDS];
-        self.take_by(entry, &mut bytes, words)
+        self.take_by(host, entry, &mut bytes, words)
     }
 
     // Takes the words for a space of the awaited line, where the next entry has them.
-    pub(crate) fn take(self, space: u32, words: &mut [u16]) -> Taken
+    pub(crate) fn take(self, host: &mut Host, space: u32, words: &mut [u16]) -> Taken
         requires { length words.old ≡ most_words }
         ensures within { result.count ≤ most_words }
         ensures other { is_for self.next self.ordinal space ≡ false → result ≡ untaken_of self }
@@ -280,7 +281,7 @@ impl Entries {
         match next {
             Next::Told(entry) => {
                 if is_for(entry, self.ordinal, space) {
-                    return self.take_entry(entry, words);
+                    return self.take_entry(host, entry, words);
                 }
                 not_taken(self)
             }

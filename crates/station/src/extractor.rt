@@ -7,8 +7,8 @@ ghost use Rattle.station.specs.Turns.{unpacked, row_turn, extracted_turn, extrac
 use crate::sidecar::Sidecar;
 use confirmation::Run;
 use console::{Read, Status};
+use host::{Host, OUTPUT};
 use intake::Filled;
-use libc::STDOUT_FILENO;
 use system::System625;
 
 // The confirming program's run over the lines, what is kept beside the rows, whether it is done, and how it ended.
@@ -60,13 +60,13 @@ fn unpacked_status(sidecar: Sidecar) -> Status
 }
 
 // Writes a row, where it is to be written.
-fn put_row(run: Run, sidecar: Sidecar, writes: bool, row: &[u8]) -> Extracting
+fn put_row(host: &mut Host, run: Run, sidecar: Sidecar, writes: bool, row: &[u8]) -> Extracting
     ensures { (written : Bool) × (result ≡ row_turn run sidecar writes written) }
 {
     if !writes {
         return open(run, sidecar);
     }
-    if io::write_all(STDOUT_FILENO, row) {
+    if host.write_all(OUTPUT, row) {
         return open(run, sidecar);
     }
     ended(run, sidecar, Status::Unwritten)
@@ -74,7 +74,7 @@ fn put_row(run: Run, sidecar: Sidecar, writes: bool, row: &[u8]) -> Extracting
 
 // The run after a line's bytes, or what is left at the end, as `programme` decides; the packets that they have are put, and the row that they
 // give is written.
-fn put_line(run: Run, sidecar: Sidecar, bytes: &[u8], row: &mut [u8]) -> Extracting
+fn put_line(host: &mut Host, run: Run, sidecar: Sidecar, bytes: &[u8], row: &mut [u8]) -> Extracting
     ensures { (packed : Bool) × (written : Bool) × (result ≡ extracted_turn (extraction_of run bytes.now (length row.old)) sidecar packed written) }
 {
     let extraction = programme::extract_next(run, bytes, row);
@@ -84,14 +84,21 @@ fn put_line(run: Run, sidecar: Sidecar, bytes: &[u8], row: &mut [u8]) -> Extract
     }
     let packets = extraction.packets;
     let beside = sidecar.behind(packets);
-    if !sidecar.put(run.walk, bytes, packets) {
+    if !sidecar.put(host, run.walk, bytes, packets) {
         return ended(next, beside, unpacked_status(sidecar));
     }
-    put_row(next, beside, extraction.gives & !sidecar.listed, row)
+    put_row(host, next, beside, extraction.gives & !sidecar.listed, row)
 }
 
 // What a turn makes of what was filled of a line.
-fn turned(run: Run, sidecar: Sidecar, filled: Filled, line: &[u8], row: &mut [u8]) -> Extracting
+fn turned(
+    host: &mut Host,
+    run: Run,
+    sidecar: Sidecar,
+    filled: Filled,
+    line: &[u8],
+    row: &mut [u8],
+) -> Extracting
     requires { filled.have ≤ length line.now }
     ensures { (packed : Bool) × (written : Bool) × (result ≡ extract_turn run sidecar filled line.now (length row.old) packed written) }
 {
@@ -102,39 +109,41 @@ fn turned(run: Run, sidecar: Sidecar, filled: Filled, line: &[u8], row: &mut [u8
     if have == 0 {
         return ended(run, sidecar, Status::Done);
     }
-    put_line(run, sidecar, &line[0..have], row)
+    put_line(host, run, sidecar, &line[0..have], row)
 }
 
 // Takes one line of the input.
 fn take_line(
+    host: &mut Host,
     input: i32,
     run: Run,
     sidecar: Sidecar,
     line: &mut [u8],
     row: &mut [u8],
 ) -> Extracting {
-    let filled = console::fill(input, line);
-    turned(run, sidecar, filled, line, row)
+    let filled = console::fill(host, input, line);
+    turned(host, run, sidecar, filled, line, row)
 }
 
 // Takes lines to the end of the input or the first refusal. An input that used the turns up would be unread.
 fn take_lines(
+    host: &mut Host,
     input: i32,
     run: Run,
     sidecar: Sidecar,
     line: &mut [u8],
     row: &mut [u8],
 ) -> Extracting {
-    let is_shown = console::is_shown();
+    let is_shown = console::is_shown(host);
     let mut at = open(run, sidecar);
     let mut turns = u64::MAX;
     while turns > 0 {
-        at = take_line(input, at.run, at.sidecar, line, row);
+        at = take_line(host, input, at.run, at.sidecar, line, row);
         turns = console::turns_left(turns, at.done);
         let now = at.run;
-        console::show_turn(is_shown, turns, now.walk);
+        console::show_turn(host, is_shown, turns, now.walk);
     }
-    console::end_turns(is_shown);
+    console::end_turns(host, is_shown);
     at
 }
 
@@ -151,11 +160,11 @@ fn come_to(at: Extracting) -> Read
 }
 
 // Says that the packets file could not be written, where it could not.
-fn say_unpacked(status: Status, packets: &[u8]) {
+fn say_unpacked(host: &mut Host, status: Status, packets: &[u8]) {
     match status {
         Status::Failed => {
-            console::say_of(b"extract", packets);
-            os::fail(b" could not be written");
+            console::say_of(host, b"extract", packets);
+            host.fail(b" could not be written");
         }
         _ => {}
     }
@@ -163,7 +172,13 @@ fn say_unpacked(status: Status, packets: &[u8]) {
 
 // Writes the rows of a recording whose header was read, to standard output, up to its end or its first refusal, with the packets of its lines
 // to the packets file of this name, where there is one; or lists these.
-pub fn extract(input: i32, run: Run, sidecar: Sidecar, packets: &[u8]) -> Extracted {
+pub fn extract(
+    host: &mut Host,
+    input: i32,
+    run: Run,
+    sidecar: Sidecar,
+    packets: &[u8],
+) -> Extracted {
     if run.number != 0 {
         return Extracted {
             read: Read::ended(run),
@@ -174,10 +189,10 @@ pub fn extract(input: i32, run: Run, sidecar: Sidecar, packets: &[u8]) -> Extrac
     let size = walk.line_bytes();
     let mut line = [0u8; 2 * System625::LINE_LENGTH];
     let mut row = [0u8; v210::ROW_LENGTH];
-    let at = take_lines(input, run, sidecar, &mut line[0..size], &mut row);
+    let at = take_lines(host, input, run, sidecar, &mut line[0..size], &mut row);
     let status = at.status;
     let beside = at.sidecar;
-    say_unpacked(status, packets);
+    say_unpacked(host, status, packets);
     Extracted {
         read: come_to(at),
         sidecar: beside,

@@ -2,7 +2,7 @@
 ghost use Rattle.std.specs.Prelude.{◌≤◌, length};
 
 use captions::ACTIVE;
-use libc::STDOUT_FILENO;
+use host::{Host, OUTPUT};
 
 // Where in a packet's bytes the low bytes of its header words stand, and how many bytes it has without user words.
 const DATA_IDENTIFIER: usize = 6;
@@ -45,7 +45,15 @@ fn put_space(text: &mut [u8], at: usize, space: u32) -> usize
 }
 
 // Writes a packet's line: the ordinal and the number of its line, its space, its two identifiers, and how many user words it has.
-fn list_packet(ordinal: u64, line: u32, space: u32, identifier: u8, second: u8, count: u8) -> bool {
+fn list_packet(
+    host: &mut Host,
+    ordinal: u64,
+    line: u32,
+    space: u32,
+    identifier: u8,
+    second: u8,
+    count: u8,
+) -> bool {
     let mut text = [0u8; 96];
     let mut at = put_number(&mut text, 0, ordinal);
     at = console::put(&mut text, at, b" ");
@@ -56,7 +64,7 @@ fn list_packet(ordinal: u64, line: u32, space: u32, identifier: u8, second: u8, 
     at = console::put(&mut text, at, b" ");
     at = put_number(&mut text, at, count as u64);
     at = console::put(&mut text, at, b"\n");
-    io::write_all(STDOUT_FILENO, &text[0..at])
+    host.write_all(OUTPUT, &text[0..at])
 }
 
 // How many bytes a packet with so many user words has.
@@ -81,11 +89,12 @@ fn size_of(bytes: &[u8]) -> usize
 }
 
 // Writes the line of the packet at the start of these bytes.
-fn list_first(ordinal: u64, line: u32, space: u32, bytes: &[u8]) -> bool {
+fn list_first(host: &mut Host, ordinal: u64, line: u32, space: u32, bytes: &[u8]) -> bool {
     if bytes.len() < LEAST {
         return true;
     }
     list_packet(
+        host,
         ordinal,
         line,
         space,
@@ -96,14 +105,20 @@ fn list_first(ordinal: u64, line: u32, space: u32, bytes: &[u8]) -> bool {
 }
 
 // Writes a line for each packet of a space, whose bytes these are. True where all were written.
-pub(crate) fn list_space(ordinal: u64, line: u32, space: u32, bytes: &[u8]) -> bool {
+pub(crate) fn list_space(
+    host: &mut Host,
+    ordinal: u64,
+    line: u32,
+    space: u32,
+    bytes: &[u8],
+) -> bool {
     let mut at: usize = 0;
     while at < bytes.len() {
         let size = size_of(&bytes[at..]);
         if size == 0 {
             return true;
         }
-        if !list_first(ordinal, line, space, &bytes[at..]) {
+        if !list_first(host, ordinal, line, space, &bytes[at..]) {
             return false;
         }
         at += size;

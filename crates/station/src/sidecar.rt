@@ -5,6 +5,7 @@ ghost use Rattle.station.specs.Turns.{has_packets, behind_line};
 
 use crate::listing::list_space;
 use captions::{ACTIVE, BETWEEN, Entry, HEAD_LENGTH, MOST_WORDS};
+use host::Host;
 use line::BETWEEN_OFFSET;
 use std::num::wrapping_add_u64;
 use system::{PacketWords, Walk};
@@ -61,10 +62,10 @@ fn counted(lines: u64, some: bool) -> u64
 }
 
 // Writes an entry with these bytes of words. True where all of it was written.
-fn put_entry(file: i32, entry: Entry, bytes: &[u8]) -> bool {
+fn put_entry(host: &mut Host, file: i32, entry: Entry, bytes: &[u8]) -> bool {
     let mut head = [0u8; HEAD_LENGTH];
     captions::put_head(entry, &mut head);
-    io::write_all(file, &head) && io::write_all(file, bytes)
+    host.write_all(file, &head) && host.write_all(file, bytes)
 }
 
 impl Sidecar {
@@ -117,9 +118,9 @@ impl Sidecar {
     }
 
     // Puts so many packet words of a space of the awaited line, of which these are the bytes.
-    fn put_words(self, line: u32, space: u32, words: u32, bytes: &[u8]) -> bool {
+    fn put_words(self, host: &mut Host, line: u32, space: u32, words: u32, bytes: &[u8]) -> bool {
         if self.listed {
-            return list_space(self.ordinal, line, space, bytes);
+            return list_space(host, self.ordinal, line, space, bytes);
         }
         let file = self.file;
         if file.number < 0 {
@@ -130,11 +131,19 @@ impl Sidecar {
             space,
             words,
         };
-        put_entry(file.number, entry, bytes)
+        put_entry(host, file.number, entry, bytes)
     }
 
     // The same of a line's bytes, from a word's offset on. A space without packets has nothing to put.
-    fn put_space(self, line: u32, space: u32, bytes: &[u8], start: usize, count: usize) -> bool {
+    fn put_space(
+        self,
+        host: &mut Host,
+        line: u32,
+        space: u32,
+        bytes: &[u8],
+        start: usize,
+        count: usize,
+    ) -> bool {
         if count == 0 {
             return true;
         }
@@ -142,6 +151,7 @@ impl Sidecar {
             return false;
         }
         self.put_words(
+            host,
             line,
             space,
             count as u32,
@@ -150,9 +160,28 @@ impl Sidecar {
     }
 
     // Puts the packets of the line that this walk awaited, of which these are the bytes. True where all were put.
-    pub(crate) fn put(self, walk: Walk, bytes: &[u8], packets: PacketWords) -> bool {
+    pub(crate) fn put(
+        self,
+        host: &mut Host,
+        walk: Walk,
+        bytes: &[u8],
+        packets: PacketWords,
+    ) -> bool {
         let active_offset = system::system_of(walk.system).active_offset();
-        self.put_space(walk.line, BETWEEN, bytes, BETWEEN_OFFSET, packets.between)
-            && self.put_space(walk.line, ACTIVE, bytes, active_offset, packets.active)
+        self.put_space(
+            host,
+            walk.line,
+            BETWEEN,
+            bytes,
+            BETWEEN_OFFSET,
+            packets.between,
+        ) && self.put_space(
+            host,
+            walk.line,
+            ACTIVE,
+            bytes,
+            active_offset,
+            packets.active,
+        )
     }
 }

@@ -5,7 +5,7 @@ ghost use Rattle.station.specs.Turns.{ended_of};
 
 use crate::entries::Entries;
 use console::Status;
-use libc::STDOUT_FILENO;
+use host::OUTPUT;
 use programme::Tape;
 
 // Where lines are written: a descriptor, and the number of its recording in the folder, or 0 for standard output.
@@ -16,7 +16,7 @@ pub(crate) struct Output {
 }
 
 pub(crate) const STANDARD: Output = Output {
-    file: STDOUT_FILENO,
+    file: OUTPUT,
     piece: 0,
 };
 

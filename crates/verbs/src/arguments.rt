@@ -1,5 +1,6 @@
 // The command's arguments.
 use crate::wrong;
+use host::Host;
 
 // Where a verb's own arguments begin: behind the command's name and the verb.
 pub(crate) const FIRST: usize = 2;
@@ -33,29 +34,29 @@ pub(crate) fn is_option(text: &[u8]) -> bool {
 }
 
 // Whether a verb is followed by the option for help.
-pub(crate) fn is_help_asked() -> bool {
+pub(crate) fn is_help_asked(host: &mut Host) -> bool {
     let mut text = [0u8; 8];
-    let length = os::arg(FIRST, &mut text);
+    let length = host.argument(FIRST, &mut text);
     is_help(&text[..length])
 }
 
 // Where names begin, given what stands at their start: behind `--`; or 0, where that is an option, which none of these verbs has.
-fn names_behind(verb: &[u8], text: &[u8]) -> usize {
+fn names_behind(host: &mut Host, verb: &[u8], text: &[u8]) -> usize {
     if same(text, b"--") {
         return FIRST + 1;
     }
     if is_option(text) {
-        wrong::no_option(verb, FIRST);
+        wrong::no_option(host, verb, FIRST);
         return 0;
     }
     FIRST
 }
 
 // Where the names that a verb takes begin, or 0, where the use is wrong and that was said.
-pub(crate) fn names_from(verb: &[u8]) -> usize {
+pub(crate) fn names_from(host: &mut Host, verb: &[u8]) -> usize {
     let mut text = io::buffer();
-    let length = os::arg(FIRST, &mut text);
-    names_behind(verb, &text[..length])
+    let length = host.argument(FIRST, &mut text);
+    names_behind(host, verb, &text[..length])
 }
 
 // The number that digits give, or none where it would have more than nine.
@@ -78,9 +79,9 @@ fn number_of(digits: &[u8]) -> u32 {
 }
 
 // The number that an argument gives, or none: a longer argument than nine digits is not taken at all.
-pub(crate) fn number(index: usize) -> u32 {
+pub(crate) fn number(host: &mut Host, index: usize) -> u32 {
     let mut text = [0u8; 9];
-    let length = os::arg(index, &mut text);
+    let length = host.argument(index, &mut text);
     if length == 0 {
         return NO_NUMBER;
     }

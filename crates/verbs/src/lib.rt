@@ -13,81 +13,86 @@ mod wrong;
 
 use crate::arguments::{is_help, names_from, same};
 use crate::help::Verb;
-use libc::STDOUT_FILENO;
+use host::{Host, OUTPUT};
 use std::num::wrapping_add_usize;
 
 // The exit status of a text that was to be written.
-fn written(is_written: bool) -> u32 {
+fn written(host: &mut Host, is_written: bool) -> u32 {
     if is_written {
         return 0;
     }
-    console::say_unwritten(b"fiskrogn");
+    console::say_unwritten(host, b"fiskrogn");
     2
 }
 
 // The help of a verb that an argument names, or what is wrong with it.
-fn help_of(verb: &[u8], index: usize) -> u32 {
+fn help_of(host: &mut Host, verb: &[u8], index: usize) -> u32 {
     if !help::is_verb(verb) {
-        return wrong::no_verb(verb);
+        return wrong::no_verb(host, verb);
     }
     let next = wrapping_add_usize(index, 1);
-    if next < os::arg_count() {
-        return wrong::no_place(b"help", next);
+    if next < host.argument_count() {
+        return wrong::no_place(host, b"help", next);
     }
-    written(help::print(verb))
+    let is_written = help::print(host, verb);
+    written(host, is_written)
 }
 
-fn say_help() -> u32 {
-    let first = names_from(b"help");
+fn say_help(host: &mut Host) -> u32 {
+    let first = names_from(host, b"help");
     if first == 0 {
         return 2;
     }
-    if os::arg_count() <= first {
-        return written(help::print(b""));
+    if host.argument_count() <= first {
+        let is_written = help::print(host, b"");
+        return written(host, is_written);
     }
     let mut verb = io::buffer();
-    let length = os::arg(first, &mut verb);
-    help_of(&verb[..length], first)
+    let length = host.argument(first, &mut verb);
+    help_of(host, &verb[..length], first)
 }
 
-fn run_verb(verb: &[u8]) -> u32 {
+fn run_verb(host: &mut Host, verb: &[u8]) -> u32 {
     match help::named(verb) {
-        Verb::Confirm => recordings::confirm(),
-        Verb::Record => filters::record(),
-        Verb::Extract => recordings::extract(),
-        Verb::Packets => recordings::packets(),
-        Verb::Finish => kept::finish(),
-        Verb::Ask => kept::run(verb, 4),
-        Verb::Check => kept::run(verb, 2),
-        Verb::Unfinish => kept::unfinish(),
-        Verb::Scramble => filters::code(verb, b"words", true),
-        Verb::Descramble => filters::code(verb, b"channel words", false),
-        _ => say_help(),
+        Verb::Confirm => recordings::confirm(host),
+        Verb::Record => filters::record(host),
+        Verb::Extract => recordings::extract(host),
+        Verb::Packets => recordings::packets(host),
+        Verb::Finish => kept::finish(host),
+        Verb::Ask => kept::run(host, verb, 4),
+        Verb::Check => kept::run(host, verb, 2),
+        Verb::Unfinish => kept::unfinish(host),
+        Verb::Scramble => filters::code(host, verb, b"words", true),
+        Verb::Descramble => filters::code(host, verb, b"channel words", false),
+        _ => say_help(host),
     }
 }
 
-fn command(verb: &[u8]) -> u32 {
+fn command(host: &mut Host, verb: &[u8]) -> u32 {
     if is_help(verb) {
-        return written(help::print(b""));
+        let is_written = help::print(host, b"");
+        return written(host, is_written);
     }
     if same(verb, b"--version") {
-        return written(io::write_all(STDOUT_FILENO, b"fiskrogn 0.1.0\n"));
+        let is_written = host.write_all(OUTPUT, b"fiskrogn 0.1.0\n");
+        return written(host, is_written);
     }
     if !help::is_verb(verb) {
-        return wrong::no_verb(verb);
+        return wrong::no_verb(host, verb);
     }
-    if arguments::is_help_asked() {
-        return written(help::print(verb));
+    if arguments::is_help_asked(host) {
+        let is_written = help::print(host, verb);
+        return written(host, is_written);
     }
-    run_verb(verb)
+    run_verb(host, verb)
 }
 
 // Runs the command with the process's arguments, and answers the exit status: a program of this language has none.
-pub fn run() -> u32 {
-    if os::arg_count() < 2 {
-        return wrong::said(b"fiskrogn", b"a verb is missing\n");
+pub fn run(host: &mut Host) -> u32 {
+    if host.argument_count() < 2 {
+        return wrong::said(host, b"fiskrogn", b"a verb is missing\n");
     }
     let mut verb = io::buffer();
-    let length = os::arg(1, &mut verb);
-    command(&verb[..length])
+    let length = host.argument(1, &mut verb);
+    command(host, &verb[..length])
 }

@@ -1,6 +1,7 @@
 // What recordings come to, one after the other: a line for each, the sums, and the worst status.
 use confirmation::{Run, Totals};
 use console::{Read, Status};
+use host::Host;
 use station::{Extracted, Sidecar};
 
 // What is done with recordings: confirming or extracting, and the descriptor for their lines.
@@ -71,9 +72,15 @@ impl Tally {
     }
 
     // With a recording more that could not be read, which was said.
-    pub(crate) fn with_unread(self, task: Task, verb: &[u8], name: &[u8]) -> Tally {
-        if !console::print_unread(task.rows, name) {
-            console::say_unwritten(verb);
+    pub(crate) fn with_unread(
+        self,
+        host: &mut Host,
+        task: Task,
+        verb: &[u8],
+        name: &[u8],
+    ) -> Tally {
+        if !console::print_unread(host, task.rows, name) {
+            console::say_unwritten(host, verb);
             return self.broken();
         }
         let totals = self.totals;
@@ -83,10 +90,10 @@ impl Tally {
     }
 
     // With a recording more that came to its end or a refusal.
-    fn with_run(self, task: Task, verb: &[u8], name: &[u8], run: Run) -> Tally {
+    fn with_run(self, host: &mut Host, task: Task, verb: &[u8], name: &[u8], run: Run) -> Tally {
         let outcome = run.outcome();
-        if !console::print_row(task.rows, outcome, name) {
-            console::say_unwritten(verb);
+        if !console::print_row(host, task.rows, outcome, name) {
+            console::say_unwritten(host, verb);
             return self.broken();
         }
         let totals = self.totals;
@@ -96,25 +103,26 @@ impl Tally {
         if run.number == 0 {
             return next;
         }
-        console::say_refused(verb, name, outcome);
+        console::say_refused(host, verb, name, outcome);
         next.marred(task, 1)
     }
 
     // With a recording more, however it ended.
-    fn with_read(self, task: Task, verb: &[u8], name: &[u8], read: Read) -> Tally {
+    fn with_read(self, host: &mut Host, task: Task, verb: &[u8], name: &[u8], read: Read) -> Tally {
         let status = read.status;
-        status.say_failure(verb, name);
+        status.say_failure(host, verb, name);
         match status {
-            Status::Unread => self.with_unread(task, verb, name),
+            Status::Unread => self.with_unread(host, task, verb, name),
             Status::Unwritten => self.broken(),
             Status::Failed => self.broken(),
-            _ => self.with_run(task, verb, name, read.run),
+            _ => self.with_run(host, task, verb, name, read.run),
         }
     }
 
     // The same with what is kept beside its rows.
     pub(crate) fn with_extracted(
         self,
+        host: &mut Host,
         task: Task,
         verb: &[u8],
         name: &[u8],
@@ -123,13 +131,13 @@ impl Tally {
         let sidecar = extracted.sidecar;
         let mut next = self;
         next.sidecar = sidecar;
-        next.with_read(task, verb, name, extracted.read)
+        next.with_read(host, task, verb, name, extracted.read)
     }
 
     // Writes the sums, and answers the exit status.
-    pub(crate) fn ended(self, task: Task, verb: &[u8]) -> u32 {
-        if self.is_written && !console::print_totals(task.rows, self.totals) {
-            console::say_unwritten(verb);
+    pub(crate) fn ended(self, host: &mut Host, task: Task, verb: &[u8]) -> u32 {
+        if self.is_written && !console::print_totals(host, task.rows, self.totals) {
+            console::say_unwritten(host, verb);
             return 2;
         }
         self.status

@@ -1,0 +1,76 @@
+// The process as the command sees it: its files by their numbers, its arguments, and why the last call failed. What comes of these calls is
+// up to the system, so no contract can determine it.
+#![tactic(auto)]
+
+mod arguments;
+mod files;
+mod names;
+mod start;
+mod telling;
+
+use std::fs::File;
+use std::io::Error;
+
+// The numbers of the standard streams.
+pub const INPUT: i32 = 0;
+
+pub const OUTPUT: i32 = 1;
+
+pub const ERRORS: i32 = 2;
+
+// What `Host::error` tells of a name that is not there, and of one that is there already.
+pub const MISSING: i32 = 2;
+
+pub const THERE: i32 = 17;
+
+// What else it tells, of calls that never came to the system: a signal came in between, a number that is not open, no sense, too many files
+// that are open, too long, and a name that is no text.
+const INTERRUPTED: i32 = 4;
+
+const NOT_OPEN: i32 = 9;
+
+const INVALID: i32 = 22;
+
+const TOO_MANY: i32 = 24;
+
+const TOO_LONG: i32 = 36;
+
+const NO_TEXT: i32 = 84;
+
+// How many files may be open at once: no verb opens as many.
+const SLOTS: usize = 8;
+
+// The files that are open, and why the last call failed that did.
+#[derive(Drop)]
+pub struct Host {
+    rt: HostRuntime,
+    files: [Option<File>; SLOTS],
+    error: i32,
+}
+
+// The number that stands for an error.
+fn number_of(error: Error) -> i32 {
+    error.raw_os_error().unwrap_or(INVALID)
+}
+
+impl Host {
+    // A process with no file open but the standard streams.
+    pub fn new(rt: HostRuntime) -> Host {
+        Host {
+            rt,
+            files: [None, None, None, None, None, None, None, None],
+            error: 0,
+        }
+    }
+
+    // Why the last call failed that did: the system's number for it.
+    pub fn error(&self) -> i32 {
+        self.error
+    }
+
+    // Keeps why a call failed. False, as for a call that failed.
+    fn failed(&mut self, number: i32) -> bool {
+        self.error = number;
+        false
+    }
+}

@@ -1,0 +1,177 @@
+// Files by their names. A name is bytes; one that is no text names nothing here.
+ghost use Rattle.std.specs.Prelude.{◌≤◌, length};
+
+use crate::{Host, NO_TEXT, THERE, number_of};
+use std::fs;
+use std::fs::{File, OpenOptions};
+use std::io::{Error, Result};
+use std::os::unix::fs::OpenOptionsExt;
+use std::random::RandomSource;
+
+// How many letters a temporary file's name ends in, and how many names are tried.
+const LETTERS: usize = 6;
+
+const TRIES: usize = 10_000;
+
+// A name as text.
+fn text_of(name: &[u8]) -> Result<&str> {
+    match std::str::from_utf8(name) {
+        Ok(text) => Ok(text),
+        Err(_) => Err(Error::from_raw_os_error(NO_TEXT)),
+    }
+}
+
+// The letter that stands for a byte.
+fn letter(byte: u8) -> u8 {
+    let number = byte % 62;
+    if number < 10 {
+        return b'0' + number;
+    }
+    if number < 36 {
+        return b'A' + (number - 10);
+    }
+    b'a' + (number - 36)
+}
+
+// Writes letters for these bytes over the end of a name.
+fn put_letters(name: &mut [u8], bytes: &[u8; LETTERS]) {
+    let size = name.len();
+    if size < LETTERS {
+        return;
+    }
+    for i in 0..LETTERS {
+        name[size - LETTERS + i] = letter(bytes[i]);
+    }
+}
+
+impl Host {
+    fn open_by(&self, how: &OpenOptions, name: &[u8]) -> Result<File> {
+        how.open(&self.rt, text_of(name)?)
+    }
+
+    fn open(&mut self, how: &OpenOptions, name: &[u8]) -> i32 {
+        let opened = self.open_by(how, name);
+        self.opened(opened)
+    }
+
+    // Opens a file for reading, and answers its number, or -1 where that failed.
+    pub fn open_read(&mut self, name: &[u8]) -> i32 {
+        let mut how = OpenOptions::new();
+        how.read(true);
+        self.open(&how, name)
+    }
+
+    // Opens a file that is there for writing behind its end.
+    pub fn open_append(&mut self, name: &[u8]) -> i32 {
+        let mut how = OpenOptions::new();
+        how.append(true);
+        self.open(&how, name)
+    }
+
+    // Makes a file that was not there, and opens it for writing.
+    pub fn create(&mut self, name: &[u8]) -> i32 {
+        let mut how = OpenOptions::new();
+        how.write(true).create_new(true);
+        self.open(&how, name)
+    }
+
+    // Makes a file that was not there and that no one else may open, and opens it for reading and writing. The last six bytes of the name become
+    // letters that no file there has.
+    pub fn create_temporary(&mut self, name: &mut [u8]) -> i32 {
+        let mut how = OpenOptions::new();
+        how.read(true).write(true).create_new(true).mode(0o600);
+        for _ in 0..TRIES {
+            let mut bytes = [0u8; LETTERS];
+            if let Err(error) = self.rt.fill_bytes(&mut bytes) {
+                self.failed(number_of(error));
+                return -1;
+            }
+            put_letters(name, &bytes);
+            let file = self.open(&how, name);
+            if 0 <= file || self.error != THERE {
+                return file;
+            }
+        }
+        -1
+    }
+
+    // Whether a call on names went well.
+    fn went(&mut self, done: Result<()>) -> bool {
+        match done {
+            Ok(()) => true,
+            Err(error) => self.failed(number_of(error)),
+        }
+    }
+
+    fn try_remove(&self, name: &[u8]) -> Result<()> {
+        fs::remove_file(&self.rt, text_of(name)?)
+    }
+
+    fn try_rename(&self, from: &[u8], to: &[u8]) -> Result<()> {
+        fs::rename(&self.rt, text_of(from)?, text_of(to)?)
+    }
+
+    fn try_make_folder(&self, name: &[u8]) -> Result<()> {
+        fs::create_dir(&self.rt, text_of(name)?)
+    }
+
+    // Removes a file's name.
+    pub fn remove(&mut self, name: &[u8]) -> bool {
+        let done = self.try_remove(name);
+        self.went(done)
+    }
+
+    // Gives a file another name, in place of what has it.
+    pub fn rename(&mut self, from: &[u8], to: &[u8]) -> bool {
+        let done = self.try_rename(from, to);
+        self.went(done)
+    }
+
+    // Makes a folder that was not there.
+    pub fn make_folder(&mut self, name: &[u8]) -> bool {
+        let done = self.try_make_folder(name);
+        self.went(done)
+    }
+}
+
+#[cfg(test)]
+mod tests {
+    use super::*;
+    use crate::MISSING;
+
+    #[test]
+    fn a_names_last_six_bytes_become_letters(rt: HostRuntime) {
+        let mut name = *b"x.XXXXXX";
+        put_letters(&mut name, &[0, 9, 10, 35, 36, 61]);
+        assert!(rt; name == *b"x.09AZaz");
+    }
+
+    #[test]
+    fn a_file_that_is_made_is_read_and_removed(rt: HostRuntime) {
+        let mut host = Host::new(rt);
+        let mut name = *b"host.XXXXXX";
+        let file = host.create_temporary(&mut name);
+        assert!(rt; 0 <= file);
+        assert!(rt; host.write_all(file, b"0123456789"));
+        assert!(rt; host.seek_end(file) == 10);
+        let mut buffer = [0u8; 4];
+        assert!(rt; host.read_at(file, &mut buffer, 7) == 3);
+        assert!(rt; buffer == *b"789\0");
+        assert!(rt; host.rewind(file));
+        assert!(rt; host.read(file, &mut buffer) == 4);
+        assert!(rt; buffer == *b"0123");
+        assert!(rt; host.close(file));
+        assert!(rt; host.create(&name) == -1);
+        assert!(rt; host.error() == THERE);
+        assert!(rt; host.remove(&name));
+        assert!(rt; host.open_read(&name) == -1);
+        assert!(rt; host.error() == MISSING);
+    }
+
+    #[test]
+    fn a_name_that_is_no_text_opens_nothing(rt: HostRuntime) {
+        let mut host = Host::new(rt);
+        assert!(rt; host.open_read(b"\xff") == -1);
+        assert!(rt; host.error() == NO_TEXT);
+    }
+}
