@@ -3,8 +3,7 @@ use Rattle.std.proofs.Common.{◌≡◌, ℕ, ◌<◌, ◌≤◌, true, false, l
 use Rattle.intake.specs.declared.Filled.{Filled}
 use Rattle.console.specs.declared.Status.TheVariants.{Done, Unread, Shortened}
 use Rattle.retention.specs.Pieces.{filled_status}
-use Rattle.retention.proofs.pieces.filled_status.Statement.{statement}
-use Rattle.retention.proofs.pieces.filled_status.Tie as tie
+use Rattle.retention.proofs.pieces.filled_status.Goals as goal
 
 module _ (filled : Filled) (due : ℕ) where
   unread : filled.failed ≡ true → Unread ≡ filled_status filled due
@@ -19,14 +18,11 @@ module _ (filled : Filled) (due : ℕ) where
   unfolding filled_status
   done f l = simp (f, le-ltb _ _ l)
 
-returns : tie.Need-returns
-returns c = let a = c.before.args in unread a.filled a.due c.if1.true
+pub returns-then-filled : goal.returns-then-filled
+returns-then-filled c = let a = c.args in unread a.filled a.due c.if-filled.true
 
-returns-2 : tie.Need-returns-2
-returns-2 c = let a = c.before.before.before.args in shortened a.filled a.due c.before.before.if1.false c.if2.true
+pub returns-then-filled-due : goal.returns-then-filled-due
+returns-then-filled-due c = let a = c.args in shortened a.filled a.due c.if-filled.false c.if-filled-due.true
 
-returns-3 : tie.Need-returns-3
-returns-3 c = let a = c.before.before.before.args in done a.filled a.due c.before.before.if1.false c.if2.false
-
-pub filled-status-spec : {M : Type 1} → statement M
-filled-status-spec = tie.close (tie.spec returns returns-2 returns-3)
+pub returns : goal.returns
+returns c = let a = c.args in done a.filled a.due c.if-filled.false c.if-filled-due.false
