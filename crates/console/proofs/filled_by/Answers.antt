@@ -4,8 +4,7 @@ use Rattle.intake.specs.declared.Told.{Told}
 use Rattle.intake.specs.declared.Filled.{Filled}
 use Rattle.intake.specs.Arrival.{told_of, WithinRoom, so_far, filled_after}
 use Rattle.console.proofs.Fills.{filled_within, told_behind}
-use Rattle.console.proofs.filled_by.Statement.{statement}
-use Rattle.console.proofs.filled_by.Tie as tie
+use Rattle.console.proofs.filled_by.Goals as goal
 
 module _ (got : ℤ) (have size : ℕ) (told : Told) (f r : Filled) (low : have ≤ size) (small : size < 2 ^ 64) (tells : told ≡ told_of got (size - have))
     (within : WithinRoom told (size - have)) (e : f ≡ so_far have) (is : r ≡ filled_after f told (size - have)) where
@@ -20,50 +19,10 @@ module _ (got : ℤ) (have size : ℕ) (told : Told) (f r : Filled) (low : have 
       let all = filled_within (so_far have) told (size - have) within (omega arith) in
       subst (λ (x : Filled). (x.have ≤ size) × (x.done ≡ false → have < x.have)) (sym same) (omega (arith, all.0), all.1)
 
-sub-tells : tie.Need-overflow-sub-tells
-sub-tells c = search rules
-
-part-tells-start : tie.Need-slice-bounds-tells-start
-part-tells-start c = search rules
-
-part-tells-end : tie.Need-slice-bounds-tells-end
-part-tells-end c = search rules
-
-tells-requires : tie.Need-tells-requires
-tells-requires c κs = tt
-
-so-far-requires : tie.Need-so-far-requires
-so-far-requires c κs = tt
-
-sub-after : tie.Need-overflow-sub-after
-sub-after c = search rules
-
-after-requires : tie.Need-after-requires
-after-requires c κs = tt
-
-returns : tie.Need-returns
+pub returns : goal.returns
 returns c =
-    let s = c.before in
-    let t = s.before in
-    let b = t.before.before.before in
-    let a = b.args in
+    let a = c.args in
     let size = length a.buffer.now in
     let low : a.have ≤ size = omega arith in
     let small : size < 2 ^ 64 = omega arith in
-    let told = told_behind a.buffer.now a.have a.got t.tells.result low b.ranges.got t.tells.ensures in (
-      by_count a.got a.have size t.tells.result s.so_far.result c.after.result low small told.0 told.1 s.so_far.ensures c.after.ensures,
-      more_filled a.got a.have size t.tells.result s.so_far.result c.after.result low small told.0 told.1 s.so_far.ensures c.after.ensures,
-    )
-
-pub filled-by-spec : {M : Type 1} → statement M
-filled-by-spec =
-    tie.close
-    (tie.spec
-    sub-tells
-    part-tells-start
-    part-tells-end
-    tells-requires
-    so-far-requires
-    sub-after
-    after-requires
-    returns)
+    let told = told_behind a.buffer.now a.have a.got c.tells-told.result low c.ranges.got (c.tells-told.ensures.told, c.tells-told.ensures.room) in record { turn = by_count a.got a.have size c.tells-told.result c.so_far.result c.after.result low small told.0 told.1 c.so_far.ensures c.after.ensures; within = more_filled a.got a.have size c.tells-told.result c.so_far.result c.after.result low small told.0 told.1 c.so_far.ensures c.after.ensures }
