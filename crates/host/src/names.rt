@@ -1,7 +1,8 @@
-// Files by their names. A name is bytes; one that is no text names nothing here.
+// Files by their names. A name is any bytes, and the library takes text, so one that is no text is told by characters, which the process around
+// the command turns back.
 ghost use Rattle.std.specs.Prelude.{◌≤◌, length};
 
-use crate::{Host, NO_TEXT, THERE, number_of};
+use crate::{Host, NO_TEXT, THERE, TOO_LONG, number_of};
 use std::fs;
 use std::fs::{File, OpenOptions};
 use std::io::{Error, Result};
@@ -13,11 +14,66 @@ const LETTERS: usize = 6;
 
 const TRIES: usize = 10_000;
 
-// A name as text.
-fn text_of(name: &[u8]) -> Result<&str> {
-    match std::str::from_utf8(name) {
+// Room for a name that is told by characters: the system opens none that is longer.
+const ROOM: usize = 4096;
+
+// The first byte of the characters U+10FF80 to U+10FFFF, of which each stands for one byte from 128 on.
+const FIRST: u8 = 0xf4;
+
+// Whether the characters that stand for bytes may be in a text.
+fn has_first(name: &[u8]) -> bool {
+    for byte in name {
+        if *byte == FIRST {
+            return true;
+        }
+    }
+    false
+}
+
+// Puts a byte of a name into the room, from 128 on by the four bytes of the character that stands for it, and answers the offset behind it. Where
+// the room is too small for that, nothing is put.
+fn put_told(room: &mut [u8], at: usize, byte: u8) -> usize
+    requires { at ≤ length room.old }
+    ensures { result ≤ length room.new }
+{
+    if room.len() - at < 4 {
+        return at;
+    }
+    if byte < 128 {
+        room[at] = byte;
+        return at + 1;
+    }
+    room[at] = FIRST;
+    room[at + 1] = 0x8f;
+    room[at + 2] = 0xbc | byte >> 6;
+    room[at + 3] = 0x80 | byte & 0x3f;
+    at + 4
+}
+
+// The name told by characters, as text.
+fn told<'a>(name: &[u8], room: &'a mut [u8]) -> Result<&'a str> {
+    let mut at: usize = 0;
+    for i in 0..name.len() {
+        let next = put_told(room, at, name[i]);
+        if next == at {
+            return Err(Error::from_raw_os_error(TOO_LONG));
+        }
+        at = next;
+    }
+    match std::str::from_utf8(&room[..at]) {
         Ok(text) => Ok(text),
         Err(_) => Err(Error::from_raw_os_error(NO_TEXT)),
+    }
+}
+
+// A name as text: as it is, or told by characters in the room.
+fn text_of<'a>(name: &'a [u8], room: &'a mut [u8]) -> Result<&'a str> {
+    if has_first(name) {
+        return told(name, room);
+    }
+    match std::str::from_utf8(name) {
+        Ok(text) => Ok(text),
+        Err(_) => told(name, room),
     }
 }
 
@@ -46,7 +102,8 @@ fn put_letters(name: &mut [u8], bytes: &[u8; LETTERS]) {
 
 impl Host {
     fn open_by(&self, how: &OpenOptions, name: &[u8]) -> Result<File> {
-        how.open(&self.rt, text_of(name)?)
+        let mut room = [0u8; ROOM];
+        how.open(&self.rt, text_of(name, &mut room)?)
     }
 
     fn open(&mut self, how: &OpenOptions, name: &[u8]) -> i32 {
@@ -104,15 +161,23 @@ impl Host {
     }
 
     fn try_remove(&self, name: &[u8]) -> Result<()> {
-        fs::remove_file(&self.rt, text_of(name)?)
+        let mut room = [0u8; ROOM];
+        fs::remove_file(&self.rt, text_of(name, &mut room)?)
     }
 
     fn try_rename(&self, from: &[u8], to: &[u8]) -> Result<()> {
-        fs::rename(&self.rt, text_of(from)?, text_of(to)?)
+        let mut first = [0u8; ROOM];
+        let mut second = [0u8; ROOM];
+        fs::rename(
+            &self.rt,
+            text_of(from, &mut first)?,
+            text_of(to, &mut second)?,
+        )
     }
 
     fn try_make_folder(&self, name: &[u8]) -> Result<()> {
-        fs::create_dir(&self.rt, text_of(name)?)
+        let mut room = [0u8; ROOM];
+        fs::create_dir(&self.rt, text_of(name, &mut room)?)
     }
 
     // Removes a file's name.
@@ -169,9 +234,16 @@ mod tests {
     }
 
     #[test]
-    fn a_name_that_is_no_text_opens_nothing(rt: HostRuntime) {
-        let mut host = Host::new(rt);
-        assert!(rt; host.open_read(b"\xff") == -1);
-        assert!(rt; host.error() == NO_TEXT);
+    fn a_name_that_is_no_text_is_told_by_characters(rt: HostRuntime) {
+        let mut room = [0u8; 16];
+        assert!(rt;
+            text_of(b"x\xff\x80", &mut room).is_ok_and(|text| text == "x\u{10ffff}\u{10ff80}")
+        );
+    }
+
+    #[test]
+    fn a_name_that_is_text_stays(rt: HostRuntime) {
+        let mut room = [0u8; 0];
+        assert!(rt; text_of("x\u{e9}".as_bytes(), &mut room).is_ok_and(|text| text == "x\u{e9}"));
     }
 }

@@ -72,8 +72,8 @@ pub extern "C" fn speed_write(
     active: &[u16],
     words: &mut [u16],
 ) -> u32
-    ensures answer { result ≡ (write_refusal system line 20 (record { samples = record { y = y.old; cb = cb.now; cr = cr.now }; packets = record { between = between.entry.now; active = active.now } }) (length words.old)).number }
-    ensures words { words.new ≡ line_after system line 20 (record { samples = record { y = y.old; cb = cb.now; cr = cr.now }; packets = record { between = between.entry.now; active = active.now } }) words.old }
+    ensures answer { result ≡ (write_refusal system line 20 (record { samples = record { y = y.now; cb = cb.now; cr = cr.now }; packets = record { between = between.now; active = active.now } }) (length words.old)).number }
+    ensures words { words.new ≡ line_after system line 20 (record { samples = record { y = y.now; cb = cb.now; cr = cr.now }; packets = record { between = between.now; active = active.now } }) words.old }
 {
     writer::write(
         system,

@@ -15,8 +15,7 @@ use Rattle.reader.specs.Take.{take_refusal, Turn, in_turn}
 use Rattle.reader.proofs.Judged.{number_judged}
 use Rattle.reader.proofs.Taken.{refused_turn}
 use Rattle.reader.proofs.Theorems.{turn_number}
-use Rattle.speed.proofs.speed_in_turn.Statement.{statement}
-use Rattle.speed.proofs.speed_in_turn.Tie as tie
+use Rattle.speed.proofs.speed_in_turn.Goals as goal
 
 module _ (w : Walk) (words : List ℕ) (b : Samples) where
   refused : (j : Judgement) → j ≡ judged_of w words → (j.number ≡ 0 → ⊥) → in_turn w words b ≡ record { judgement = j; buffers = b }
@@ -27,41 +26,16 @@ module _ (w : Walk) (words : List ℕ) (b : Samples) where
   taken : (r : Refusal) → r ≡ take_refusal w words b → r.number ≡ (in_turn w words b).judgement.number
   taken r is = same_number (is ∙ sym (turn_number w words b))
 
-of-requires : tie.Need-of-requires
-of-requires c κs = tt
+pub returns-then-judgement-ne0 : goal.returns-then-judgement-ne0
+returns-then-judgement-ne0 c =
+    let a = c.args in
+    let b : Samples = record { y = a.y.now; cb = a.cb.now; cr = a.cr.now } in
+    let whole = sym (refused (fresh_walk a.system a.line) a.words.now b _ (rw c.of-walk.ensures at c.judge-judgement.ensures) c.if-judgement-ne0.true) in
+    record { answer = ap (λ (t : Turn). t.judgement.number) whole; ys = ap (λ (t : Turn). t.buffers.y) whole; cbs = ap (λ (t : Turn). t.buffers.cb) whole; crs = ap (λ (t : Turn). t.buffers.cr) whole }
 
-judge-requires : tie.Need-judge-requires
-judge-requires c κs = search rules
-
-returns : tie.Need-returns
+pub returns : goal.returns
 returns c =
-    let judged = c.before.before in
-    let a = judged.before.before.before.before.before.before.args in
+    let a = c.args in
     let b : Samples = record { y = a.y.now; cb = a.cb.now; cr = a.cr.now } in
-    let whole = sym (refused (fresh_walk a.system a.line) a.words.now b _ (rw judged.before.of.ensures at judged.judge.ensures) c.if1.true) in
-    (ap (λ (t : Turn). t.judgement.number) whole, (ap (λ (t : Turn). t.buffers.y) whole, (ap (λ (t : Turn). t.buffers.cb) whole, ap (λ (t : Turn). t.buffers.cr) whole)))
-
-take-requires : tie.Need-take-requires
-take-requires c κs = search rules
-
-same_length : tie.Need-same-length
-same_length c = search rules
-
-same-length-2 : tie.Need-same-length-2
-same-length-2 c = search rules
-
-same-length-3 : tie.Need-same-length-3
-same-length-3 c = search rules
-
-returns-2 : tie.Need-returns-2
-returns-2 c =
-    let took = c.before.before.before.before.before.before in
-    let judged = took.before.before.before.before.before.before in
-    let a = judged.before.before.before.before.before.before.args in
-    let b : Samples = record { y = a.y.now; cb = a.cb.now; cr = a.cr.now } in
-    let walk = judged.before.of.ensures in
-    (taken (fresh_walk a.system a.line) a.words.now b _ (rw walk at took.take.ensures.0), rw walk at took.take.ensures.1)
-
-pub speed-in-turn-spec : {M : Type 1} → statement M
-speed-in-turn-spec =
-    tie.close (tie.spec of-requires judge-requires returns take-requires same_length same-length-2 same-length-3 returns-2)
+    let walk = c.of-walk.ensures in
+    record { answer = taken (fresh_walk a.system a.line) a.words.now b _ (rw walk at c.take.ensures.answer); ys = rw walk at c.take.ensures.ys; cbs = rw walk at c.take.ensures.cbs; crs = rw walk at c.take.ensures.crs }
