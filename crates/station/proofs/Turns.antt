@@ -1,5 +1,5 @@
 -- Each way that a turn of a filter ends is one of the definition's. Assumes nothing.
-use Rattle.std.proofs.Common.{◌≡◌, ℕ, Bool, true, false, cond, eqb, List, take, sym, ap, ◌∙◌, ap₂, true≢false, arith, rules, eq-eqb, ne_eqb}
+use Rattle.std.proofs.Common.{◌≡◌, ℕ, Bool, true, false, cond, eqb, List, take, sym, ap, ◌∙◌, ap₂, true≢false, arith, eq-eqb, ne_eqb}
 use Rattle.refusal.proofs.Cases.{by_test}
 use Rattle.refusal.specs.Numbers.{bad_entry}
 use Rattle.intake.specs.declared.Filled.{Filled}
@@ -104,7 +104,7 @@ module _ (t : Tape) (e : Entries) (r : Taping) where
       }
 
 pub goes_tape : {t u : Tape} {e : Entries} (r : Taping) → t ≡ u → Goes t e r → Goes u e r
-goes_tape r is goes = record { on = λ on. ((goes.on on).0 ∙ is, (goes.on on).1); ended = goes.ended; keeps = search rules; rests = λ h. search rules }
+goes_tape r is goes = record { on = λ on. ((goes.on on).0 ∙ is, (goes.on on).1); ended = goes.ended }
 
 pub unwritten_badly : code_of Unwritten ≡ 0 → ⊥
 unwritten_badly z = omega arith

@@ -1,7 +1,6 @@
 -- What the packets file of `record` comes to, of the bytes that were filled of it.
 use Rattle.std.specs.Prelude.{ℕ, ◌+◌, ◌%◌, ◌^◌, Bool, true, false, cond, ◌&&◌, List, take, ◌==◌, nat_lt}
 use Rattle.intake.specs.declared.Filled.{Filled}
-use Rattle.captions.specs.declared.Entry.{Entry}
 use Rattle.captions.specs.declared.Head.{Head}
 use Rattle.captions.specs.Entry.{head_length, head_judged}
 use Rattle.station.specs.declared.entries.Next.{Next}

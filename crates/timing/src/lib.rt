@@ -3,7 +3,7 @@
 #![tactic(auto)]
 
 ghost use Rattle.std.specs.Prelude.{◌≡◌, ◌+◌, ◌*◌, ◌/◌, ◌%◌, ◌^◌};
-ghost use Rattle.timing.specs.Code.{legal_of, fourth_of, seven_of, pattern_correction, correction_of};
+ghost use Rattle.timing.specs.Code.{legal_of, fourth_of, hopeless_of, seven_of, pattern_correction, correction_of};
 ghost use Rattle.timing.specs.Report.{Values, values_of, code_report_of};
 
 use refusal::Number;
@@ -31,20 +31,14 @@ pub struct Report {
     pub sav: CodeReport,
 }
 
-// The seven bits F, V, H, P3, P2, P1, P0 of a legal code.
+// The seven bits F, V, H, P3, P2, P1, P0 of a legal code: each flag stands for itself and inverts the protection bits that follow it.
 fn legal(fvh: u32) -> u32
     ensures { result ≡ legal_of fvh }
 {
-    match fvh % 8 {
-        0b000 => 0b000_0000,
-        0b001 => 0b001_1101,
-        0b010 => 0b010_1011,
-        0b011 => 0b011_0110,
-        0b100 => 0b100_0111,
-        0b101 => 0b101_1010,
-        0b110 => 0b110_1100,
-        _ => 0b111_0001,
-    }
+    let f = fvh / 4 % 2 * 0b1000111;
+    let v = fvh / 2 % 2 * 0b0101011;
+    let h = fvh % 2 * 0b0011101;
+    f ^ v ^ h
 }
 
 // The fourth word that the writer sets.
@@ -52,6 +46,40 @@ pub fn fourth(fvh: u32) -> u16
     ensures { result ≡ fourth_of fvh }
 {
     (512 + 4 * legal(fvh)) as u16
+}
+
+// The refusal of seven bits that no legal pattern is near, by their number of ones.
+fn hopeless(pattern: u32) -> u32
+    ensures { result ≡ hopeless_of pattern }
+{
+    if u32::count_ones(pattern) % 2 == 0 {
+        return Number::HOPELESS_EVEN;
+    }
+    Number::HOPELESS_ODD
+}
+
+// What seven bits say: the legal pattern within one inverted bit, if there is one.
+fn correct_pattern(pattern: u32) -> Correction
+    ensures { result ≡ pattern_correction pattern }
+{
+    let mut fvh: u32 = 8;
+    while 0 < fvh {
+        fvh -= 1;
+        let difference = pattern ^ legal(fvh);
+        let inverted = u32::count_ones(difference);
+        if inverted == 0 {
+            return Correction::Clean { fvh };
+        }
+        if inverted == 1 {
+            return Correction::Repaired {
+                fvh,
+                bit: u32::trailing_zeros(difference) + 2,
+            };
+        }
+    }
+    Correction::Refused {
+        number: hopeless(pattern),
+    }
 }
 
 // The table of the 128 answers: a row for each P3, P2, P1, P0, and in it two hexadecimal digits for each F, V, H, from 111 down to 000. They are
@@ -79,7 +107,7 @@ fn answers(pattern: u32) -> u64
     }
 }
 
-// What the table says of a word's seven bits.
+// What the table says of a word's seven bits. Correction does not ask it yet.
 fn looked_up(word: u16) -> Correction
     ensures { result ≡ pattern_correction (seven_of word) }
 {
@@ -114,7 +142,7 @@ pub fn correct(word: u16) -> Correction
             number: Number::BIT_NINE,
         };
     }
-    looked_up(word)
+    correct_pattern((word / 4 % 128) as u32)
 }
 
 // The same correction, quick where the word is the fourth word of these F, V, H or one bit from it.

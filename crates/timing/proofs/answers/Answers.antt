@@ -1,6 +1,5 @@
 -- `timing::answers` meets its contract: each row passes the test of the table's rule, which is computed. Assumes nothing.
 use native.Mathlib.Omega.{arith}
-use Rattle.timing.proofs.Every.{the_last}
 use Rattle.timing.proofs.Table.{row_right, in_row}
 use Rattle.timing.proofs.answers.Goals as goal
 

@@ -15,4 +15,4 @@ returns-then-word-lt512 c = sym (clear_is_7 _ c.if-word-lt512.true)
 pub returns : goal.returns
 returns c =
     let w : ℕ = c.args.word in
-    c.looked_up.ensures ∙ sym (by_pattern w (omega arith))
+    c.correct_pattern.ensures ∙ sym (by_pattern w (omega arith))

@@ -1,5 +1,4 @@
 -- `timing::correct_expecting` meets its contract: a word at distance 0 or 1 from the one expected is clean or repaired. Assumes nothing.
-use borrow.Author.Rules.{rules}
 use Prim.Native.Nat.{ℕ, ◌+◌, ◌/◌, ◌<◌}
 use mathlib.Core.Path.{◌≡◌, sym, ap, ◌∙◌}
 use native.Mathlib.Omega.{arith}

@@ -1,5 +1,4 @@
 -- `timing::fourth` meets its contract: the seven bits are below 128. Assumes nothing.
-use borrow.Author.Rules.{rules}
 use native.Mathlib.Omega.{arith}
 use Rattle.timing.specs.Code.{fourth_of}
 use Rattle.timing.proofs.Laws.{legal_below}

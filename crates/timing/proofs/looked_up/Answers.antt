@@ -1,5 +1,4 @@
 -- `timing::looked_up` meets its contract: the table's entry says what the seven bits do. Assumes nothing.
-use borrow.Author.Rules.{rules}
 use native.Mathlib.Omega.{arith}
 use borrow.Author.Tests.{lt-ltb, le-ltb}
 use Rattle.timing.specs.Code.{seven_of}

@@ -1,12 +1,11 @@
 -- `any_of` meets its contract: no word passed is larger than all of them or'ed. Assumes nothing.
-use borrow.Author.Rules.{rules}
 use borrow.Author.Count.{below_more}
 use native.Mathlib.Omega.{arith}
 use mathlib.Core.Path.{subst}
-use Prim.Native.Nat.{ℕ, ◌≤◌, ◌<◌, ◌-◌}
+use Prim.Native.Nat.{ℕ, ◌≤◌}
 use native.Mathlib.Nat.{le_trans}
 use lib.Bits.{bit_or, or_add_and, and_le_r, or_comm}
-use lib.ListN.{length, get_or}
+use lib.ListN.{get_or}
 use Rattle.words.proofs.any_of.Goals as goal
 
 -- `|` is no less than either side
@@ -14,7 +13,6 @@ le_or_left : (a b : ℕ) → a ≤ bit_or a b
 le_or_left a b = omega (arith, or_add_and a b, and_le_r a b)
 
 le_or_right : (a b : ℕ) → b ≤ bit_or a b
-
 le_or_right a b = subst (λ (x : ℕ). b ≤ x) (or_comm b a) (le_or_left b a)
 
 pub loop-i-init : goal.loop-i-init

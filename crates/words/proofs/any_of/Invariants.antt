@@ -1,11 +1,5 @@
 -- `any_of` meets its contract: no word passed is larger than all of them or'ed. Assumes nothing.
-use borrow.Author.Rules.{rules}
-use borrow.Author.Count.{below_more}
-use native.Mathlib.Omega.{arith}
-use mathlib.Core.Path.{subst}
 use Prim.Native.Nat.{ℕ, ◌≤◌, ◌<◌, ◌-◌}
-use native.Mathlib.Nat.{le_trans}
-use lib.Bits.{bit_or, or_add_and, and_le_r, or_comm}
 use lib.ListN.{length, get_or}
 use Rattle.words.proofs.any_of.Given as goal
 

@@ -1,9 +1,8 @@
 -- `words::copy_bytes` meets its contract. The loop's invariant: each byte passed is that of its word. Assumes nothing.
-use borrow.Author.Rules.{rules}
-use mathlib.Core.Path.{◌≡◌, refl, sym, ◌∙◌}
-use Prim.Native.Nat.{ℕ, ◌+◌, ◌-◌, ◌*◌, ◌<◌, ◌≤◌}
+use mathlib.Core.Path.{refl, sym, ◌∙◌}
+use Prim.Native.Nat.{ℕ, ◌+◌, ◌*◌}
 use native.Mathlib.Omega.{arith}
-use lib.ListN.{length, get_or, set, length-set}
+use lib.ListN.{set, length-set}
 use Rattle.words.proofs.Tabs.{is_tab}
 use Rattle.words.proofs.Stores.{store_more}
 use Rattle.words.specs.Bytes.{byte_of_words, bytes_of}

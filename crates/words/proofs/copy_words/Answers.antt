@@ -1,13 +1,11 @@
 -- `words::copy_words` meets its contract. The loop's invariant: each word passed is that of its bytes. Assumes nothing.
-use borrow.Author.Rules.{rules}
-use mathlib.Core.Path.{◌≡◌, refl, ◌∙◌}
-use Prim.Native.Nat.{ℕ, ◌-◌, ◌*◌, ◌<◌, ◌≤◌}
+use mathlib.Core.Path.{refl, ◌∙◌}
+use Prim.Native.Nat.{ℕ}
 use native.Mathlib.Omega.{arith}
 use borrow.Author.Count.{below_more}
-use lib.ListN.{length, get_or, length-set}
+use lib.ListN.{length-set}
 use lib.Seq.{get_or-set_same, get_or-set_other}
 use Rattle.words.proofs.Tabs.{is_tab}
-use Rattle.words.specs.Bytes.{word_of_bytes}
 use Rattle.words.proofs.copy_words.Goals as goal
 
 pub loop-k-init : goal.loop-k-init

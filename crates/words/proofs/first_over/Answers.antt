@@ -1,8 +1,6 @@
 -- `words::first_over` meets its contract: no word passed is over 1023, and where all or'ed are not, none is. Assumes nothing.
-use borrow.Author.Rules.{rules}
 use borrow.Author.Count.{below_more}
 use native.Mathlib.Omega.{arith}
-use Prim.Native.Nat.{ℕ, ◌≤◌, ◌<◌, ◌-◌}
 use native.Mathlib.Nat.{le_trans}
 use lib.ListN.{length, get_or}
 use Rattle.words.specs.Words.{most_word}

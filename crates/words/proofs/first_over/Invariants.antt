@@ -1,12 +1,7 @@
 -- `words::first_over` meets its contract: no word passed is over 1023, and where all or'ed are not, none is. Assumes nothing.
-use borrow.Author.Rules.{rules}
-use borrow.Author.Count.{below_more}
-use native.Mathlib.Omega.{arith}
 use Prim.Native.Nat.{ℕ, ◌≤◌, ◌<◌, ◌-◌}
-use native.Mathlib.Nat.{le_trans}
 use lib.ListN.{length, get_or}
 use Rattle.words.specs.Words.{most_word}
-use Rattle.words.proofs.Over.{lowest_over, none_over}
 use Rattle.words.proofs.first_over.Given as goal
 
 abbrev pub invariant-loop-i : goal.invariant-loop-i

@@ -1,5 +1,4 @@
 -- `words::to_bytes` meets its contract: a refusal comes before the first store. Assumes nothing.
-use borrow.Author.Rules.{rules}
 use mathlib.Core.Path.{sym, ◌∙◌}
 use Rattle.refusal.proofs.Firsts.{same_number, written_accepted, written_refused}
 use Rattle.words.proofs.Bytes.{pairs_fit}

@@ -1,5 +1,4 @@
 -- `words::to_words` meets its contract: a refusal comes before the first store. Assumes nothing.
-use borrow.Author.Rules.{rules}
 use Prim.Native.Nat.{ℕ, ◌*◌, ◌/◌}
 use mathlib.Core.Path.{◌≡◌, sym, ap, ◌∙◌}
 use native.Mathlib.Omega.{arith}
@@ -26,5 +25,8 @@ returns c =
     let start = c.args in
     let asked = c.pairs_refusal-refusal in
     let twice = pairs_fit (length start.bytes.now) (length start.words.now) (sym (same_number asked.ensures) ∙ c.if-refusal-ne0.false) in
-    let half : length start.words.now ≡ length start.bytes.now / 2 = omega (arith, twice) in record { answer = asked.ensures; words = c.copy_words.ensures ∙ ap (λ (n : ℕ). tab n (λ k. word_of_bytes start.bytes.now (2 * k))) half
-          ∙ sym (written_accepted asked.result _ _ c.if-refusal-ne0.false) }
+    let half : length start.words.now ≡ length start.bytes.now / 2 = omega (arith, twice) in record {
+      answer = asked.ensures;
+      words = c.copy_words.ensures ∙ ap (λ (n : ℕ). tab n (λ k. word_of_bytes start.bytes.now (2 * k))) half
+          ∙ sym (written_accepted asked.result _ _ c.if-refusal-ne0.false);
+    }
