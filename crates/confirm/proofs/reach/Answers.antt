@@ -15,8 +15,7 @@ use Rattle.confirmation.specs.declared.Followed.{Followed}
 use Rattle.confirmation.specs.Follow.{followed_of}
 use Rattle.confirmation.proofs.Theorems.{taken_within}
 use Rattle.confirm.specs.Turn.{ready_after, reached_of}
-use Rattle.confirm.proofs.reach.Statement.{statement}
-use Rattle.confirm.proofs.reach.Tie as tie
+use Rattle.confirm.proofs.reach.Goals as goal
 
 module _ (run : Run) (f : Followed) (buffer : List ℕ) (at have : ℕ) (low : at ≤ have) (high : have ≤ length buffer)
     (e : f ≡ followed_of run (part at have buffer)) where
@@ -39,55 +38,20 @@ module _ (run : Run) (f : Followed) (buffer : List ℕ) (at have : ℕ) (low : a
       → record { run = f.run; at = at + f.taken; have = have; done = not (eqb f.run.number 0); failed = false } ≡ reached_of run at have buffer
   part_way left = simp (ne_eqb (at + f.taken) (length buffer) left) at reached
 
-sub-follow : tie.Need-overflow-sub-follow
-sub-follow c = search rules
+pub overflow_add-reached : goal.overflow_add-reached
+overflow_add-reached c =
+    let a = c.args in
+    let low : a.at ≤ a.have = c.requires.0 in
+    let high : a.have ≤ length a.buffer.now = c.requires.1 in
+    omega (arith, c.ranges.have, taken_before a.run c.follow-followed.result a.buffer.now a.at a.have low high c.follow-followed.ensures)
 
-part-follow-start : tie.Need-slice-bounds-follow-start
-part-follow-start c = search rules
+pub returns-then-reached-buffer : goal.returns-then-reached-buffer
+returns-then-reached-buffer c =
+    let a = c.args in
+    record { turn = to_the_end a.run c.follow-followed.result a.buffer.now a.at a.have c.requires.0 c.requires.1 c.follow-followed.ensures c.if-reached-buffer.true; within = (omega arith, omega arith) }
 
-part-follow-end : tie.Need-slice-bounds-follow-end
-part-follow-end c = search rules
-
-follow-requires : tie.Need-follow-requires
-follow-requires c κs = tt
-
-add-reached : tie.Need-overflow-add-reached
-add-reached c =
-    let f = c.before.before in
-    let b = f.before.before.before in
-    let a = b.args in
-    let low : a.at ≤ a.have = b.requires.0 in
-    let high : a.have ≤ length a.buffer.now = b.requires.1 in
-    omega (arith, b.ranges.have, taken_before a.run f.follow.result a.buffer.now a.at a.have low high f.follow.ensures)
-
-returns : tie.Need-returns
+pub returns : goal.returns
 returns c =
-    let i = c.before in
-    let f = i.before.before.before in
-    let b = f.before.before.before in
-    let a = b.args in
-    (to_the_end a.run f.follow.result a.buffer.now a.at a.have b.requires.0 b.requires.1 f.follow.ensures i.if1.true, (omega arith, omega arith))
-
-returns-2 : tie.Need-returns-2
-returns-2 c =
-    let i = c.before in
-    let f = i.before.before.before in
-    let b = f.before.before.before in
-    let a = b.args in
-    let low : a.at ≤ a.have = b.requires.0 in
-    let high : a.have ≤ length a.buffer.now = b.requires.1 in (
-      part_way a.run f.follow.result a.buffer.now a.at a.have low high f.follow.ensures i.if1.false,
-      (taken_before a.run f.follow.result a.buffer.now a.at a.have low high f.follow.ensures, high),
-    )
-
-pub reach-spec : {M : Type 1} → statement M
-reach-spec =
-    tie.close
-    (tie.spec
-    sub-follow
-    part-follow-start
-    part-follow-end
-    follow-requires
-    add-reached
-    returns
-    returns-2)
+    let a = c.args in
+    let low : a.at ≤ a.have = c.requires.0 in
+    let high : a.have ≤ length a.buffer.now = c.requires.1 in record { turn = part_way a.run c.follow-followed.result a.buffer.now a.at a.have low high c.follow-followed.ensures c.if-reached-buffer.false; within = (taken_before a.run c.follow-followed.result a.buffer.now a.at a.have low high c.follow-followed.ensures, high) }
