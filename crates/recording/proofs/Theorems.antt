@@ -77,7 +77,9 @@ through {system} {line} no_line hs lines repairs tally b m rest hl hn hr ht =
     let e : lines + 0 ≡ lines = omega arith in
     let f : repairs + 0 ≡ repairs = omega arith in
     (b, m, rw (e, f))
-through {system} (line_more {line = line} {fallen = fallen} {eav = eav} {sav = sav} {altered = altered} {l = l} {read = read} {ls = ls} {reads = reads} room may written dam he hs' more) hs lines repairs tally b m rest hl hn hr ht =
+through {system} (line_more {line = line} {fallen = fallen} {eav = eav} {sav = sav} {altered = altered} {l = l} {read = read} {ls = ls} {reads = reads} room may written dam few-eav few-sav more) hs lines repairs tally b m rest hl hn hr ht =
+    let he : eav ≤ 1 = omega (arith, few-eav) in
+    let hs' : sav ≤ 1 = omega (arith, few-sav) in
     let w = at system line lines repairs fallen tally in
     let good : Good w = record { system = hs; line = hl; lines = omega arith; repairs = hr; tally = ht } in
     let d = due_with (system_of system) line l.v in

@@ -13,6 +13,7 @@ use Rattle.console.specs.declared.Status.{Status}
 use Rattle.console.specs.declared.Status.TheVariants.{Done, Refused, Unread, Unwritten, Failed}
 use Rattle.console.specs.Status.{code_of}
 use Rattle.station.specs.declared.entries.Entries.{Entries}
+use Rattle.station.specs.declared.entries.Next.TheVariants.{Nothing}
 use Rattle.station.specs.declared.extractor.Extracting.{Extracting}
 use Rattle.station.specs.declared.sidecar.Sidecar.{Sidecar}
 use Rattle.station.specs.declared.taping.Output.{Output}
@@ -158,6 +159,13 @@ halted_badly at r is =
 
     ended_so : (at r : Taping) (status : Status) → (code_of status ≡ 0 → ⊥) → r ≡ ended_of at status → (r.done ≡ true) × (code_of r.status ≡ 0 → ⊥)
     ended_so at r status bad e = (ap (λ (x : Taping). x.done) e, λ code. bad (ap (λ (x : Taping). code_of x.status) (sym e) ∙ code))
+
+-- so it is done, and nothing is asked of its packets
+pub halted_done : (at r : Taping) → r ≡ halted_of at → r.done ≡ true
+halted_done at r is = (halted_badly at r is).0
+
+pub halted_left : (at r : Taping) → r ≡ halted_of at → code_of r.status ≡ 0 → r.entries.next ≡ Nothing
+halted_left at r is code = absurd ((halted_badly at r is).1 code)
 
 -- a turn that is done with its line did not end well
 not_well : (t : Tape) (output : Output) (e : Entries) (written : Bool) → (taped_turn t output e written).done ≡ true

@@ -1,13 +1,11 @@
 -- `station::recorder::end_packets` meets its contract: done where no entry is left; otherwise its line is written, or it is refused. Assumes nothing.
-use Rattle.std.proofs.Common.{sym, refl, ap, ◌∙◌, arith}
+use Rattle.std.proofs.Common.{sym, refl, ap, ◌∙◌, arith, rules}
 use Rattle.refusal.proofs.Cases.{not_true, not_false}
 use Rattle.console.specs.declared.Status.TheVariants.{Done}
 use Rattle.station.specs.declared.taping.Taping.{Taping}
 use Rattle.station.specs.Turns.{ended_of}
-use Rattle.station.proofs.Turns.{halted_badly}
+use Rattle.station.proofs.Turns.{halted_badly, halted_done, halted_left}
 use Rattle.station.proofs.Lines.{nothing_next, not_left}
-use Rattle.station.proofs.Turns.{halted_badly}
-use Rattle.station.proofs.Lines.{nothing_next}
 use mathlib.Core.Bool.{not}
 use Rattle.station.proofs.recorder.end_packets.Goals as goal
 
@@ -26,7 +24,7 @@ shape_of-line-then-not-is_told c = c.loop-lines.invariant.0
 
 pub returns-then-not-is_told : goal.returns-then-not-is_told
 returns-then-not-is_told c =
-    let bad = halted_badly c.loop-lines.at c.halted.result c.halted.ensures in record { done = bad.0; packets = λ code. absurd (bad.1 code); bare = λ none. absurd (not_left c.loop-lines.at _ (sym c.is_left.ensures ∙ not_false _ (ap not c.if-not-is_left.false)) (c.loop-lines.invariant.1 none).0 none) }
+    record { done = search (rules, halted_done); packets = search (rules, halted_left); bare = λ none. absurd (not_left c.loop-lines.at _ (sym c.is_left.ensures ∙ not_false _ (ap not c.if-not-is_left.false)) (c.loop-lines.invariant.1 none).0 none) }
 
 pub shape_of-line-then-here : goal.shape_of-line-then-here
 shape_of-line-then-here c = c.loop-lines.invariant.0
