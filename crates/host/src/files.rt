@@ -1,5 +1,8 @@
 // Files that are open, by their numbers.
-use crate::{ERRORS, Host, INPUT, INTERRUPTED, NOT_OPEN, OUTPUT, SLOTS, TOO_MANY, number_of};
+use crate::{
+    ERRORS, Host, INPUT, INTERRUPTED, INVALID, NO_DISK, NOT_OPEN, OUTPUT, SLOTS, TOO_MANY,
+    number_of,
+};
 use std::fs::File;
 use std::io::{Error, ErrorKind, IsTerminal, Read, Result, Seek, SeekFrom, Write};
 use std::os::fd::AsRawFd;
@@ -236,6 +239,13 @@ impl Host {
             Ok(()) => true,
             Err(error) => self.failed(number_of(error)),
         }
+    }
+
+    // Closes a file that was written. What was written may fail as late as that, and closing tells nothing, so it is waited for before; what is
+    // no file on a disk has nothing to wait for.
+    pub fn close_written(&mut self, file: i32) -> bool {
+        let is_written = self.sync(file) || self.error == INVALID || self.error == NO_DISK;
+        self.close(file) && is_written
     }
 
     // Whether a file or a standard stream is a terminal.

@@ -24,7 +24,7 @@ pub const MISSING: i32 = 2;
 pub const THERE: i32 = 17;
 
 // What else it tells, of calls that never came to the system: a signal came in between, a number that is not open, no sense, too many files
-// that are open, too long, and a name that is no text.
+// that are open, too long, a name that is no text, and one that is on no disk.
 const INTERRUPTED: i32 = 4;
 
 const NOT_OPEN: i32 = 9;
@@ -36,6 +36,8 @@ const TOO_MANY: i32 = 24;
 const TOO_LONG: i32 = 36;
 
 const NO_TEXT: i32 = 84;
+
+const NO_DISK: i32 = 95;
 
 // How many files may be open at once: no verb opens as many.
 const SLOTS: usize = 8;

@@ -15,7 +15,7 @@ const LETTERS: usize = 6;
 const TRIES: usize = 10_000;
 
 // Room for a name that is told by characters: the system opens none that is longer.
-const ROOM: usize = 4096;
+const ROOM: usize = 4100;
 
 // The first byte of the characters U+10FF80 to U+10FFFF, of which each stands for one byte from 128 on.
 const FIRST: u8 = 0xf4;
@@ -30,16 +30,38 @@ fn has_first(name: &[u8]) -> bool {
     false
 }
 
-// Puts a byte of a name into the room, from 128 on by the four bytes of the character that stands for it, and answers the offset behind it. Where
+// How many bytes a text begins with before the first byte of such a character.
+fn before_first(text: &[u8]) -> usize
+    ensures { result ≤ length text.now }
+{
+    for i in 0..text.len() {
+        if text[i] == FIRST {
+            return i;
+        }
+    }
+    text.len()
+}
+
+// How many bytes a name begins with that stay as they are: text, and none of the characters that stand for bytes.
+fn plain_length(name: &[u8]) -> usize
+    ensures { result ≤ length name.now }
+{
+    match std::str::from_utf8(name) {
+        Ok(_) => before_first(name),
+        Err(error) => before_first(&name[..error.valid_up_to()]),
+    }
+}
+
+// Puts a byte of a name into the room, as it is or by the four bytes of the character that stands for it, and answers the offset behind it. Where
 // the room is too small for that, nothing is put.
-fn put_told(room: &mut [u8], at: usize, byte: u8) -> usize
+fn put_told(room: &mut [u8], at: usize, byte: u8, is_plain: bool) -> usize
     requires { at ≤ length room.old }
     ensures { result ≤ length room.new }
 {
     if room.len() - at < 4 {
         return at;
     }
-    if byte < 128 {
+    if is_plain {
         room[at] = byte;
         return at + 1;
     }
@@ -53,8 +75,12 @@ fn put_told(room: &mut [u8], at: usize, byte: u8) -> usize
 // The name told by characters, as text.
 fn told<'a>(name: &[u8], room: &'a mut [u8]) -> Result<&'a str> {
     let mut at: usize = 0;
+    let mut plain: usize = 0;
     for i in 0..name.len() {
-        let next = put_told(room, at, name[i]);
+        if plain <= i {
+            plain = i + plain_length(&name[i..]);
+        }
+        let next = put_told(room, at, name[i], i < plain);
         if next == at {
             return Err(Error::from_raw_os_error(TOO_LONG));
         }

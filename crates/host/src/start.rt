@@ -6,7 +6,7 @@ use std::io::Write;
 const NOTHING: &[u8] = b"/dev/null";
 
 impl Host {
-    // Whether standard error was closed.
+    // Whether nothing can be written to standard error: it is closed, or open for reading alone.
     fn has_no_errors(&self) -> bool {
         let mut errors = self.rt.stderr();
         match errors.write(&[]) {
@@ -15,11 +15,19 @@ impl Host {
         }
     }
 
+    // Whether a file that was opened as nothing shows that standard error is open: it has its number, or a higher one, since that was taken.
+    fn shows_errors(&mut self, file: i32) -> bool {
+        if ERRORS < file {
+            self.close(file);
+        }
+        ERRORS <= file
+    }
+
     // Opens nothing as standard error, by way of the lower numbers, where these are closed too. False where that failed.
     fn open_errors(&mut self) -> bool {
         let first = self.open_append(NOTHING);
         if first < 0 || ERRORS <= first {
-            return first == ERRORS;
+            return self.shows_errors(first);
         }
         let is_open = self.open_errors_behind();
         self.close(first);
@@ -29,11 +37,11 @@ impl Host {
     fn open_errors_behind(&mut self) -> bool {
         let second = self.open_append(NOTHING);
         if second < 0 || ERRORS <= second {
-            return second == ERRORS;
+            return self.shows_errors(second);
         }
         let third = self.open_append(NOTHING);
         self.close(second);
-        third == ERRORS
+        self.shows_errors(third)
     }
 
     // Standard error that is closed is opened as nothing: a recording that is made would take its number, and messages with it. False where

@@ -67,7 +67,7 @@ fn make_next(host: &mut Host, folder: &[u8], at: Taping) -> Taping
     ensures { Goes (turned_of at.tape) at.entries result }
 {
     let output = at.output;
-    if !host.close(output.file) {
+    if !host.close_written(output.file) {
         return at.ended(Status::Unwritten);
     }
     if folder::MOST <= output.piece {
@@ -127,7 +127,7 @@ pub(crate) fn start(host: &mut Host, at: Taping, folder: &[u8]) -> Taping {
 pub(crate) fn close(host: &mut Host, at: Taping) -> Taping {
     let output = at.output;
     let status = at.status;
-    if output.piece == 0 || status.code() != 0 || host.close(output.file) {
+    if output.piece == 0 || status.code() != 0 || host.close_written(output.file) {
         return at;
     }
     at.ended(Status::Unwritten)

@@ -48,7 +48,7 @@ pub(crate) fn without_output(host: &mut Host) -> u32 {
 
 // Closes the packets file: what was written may fail as late as that, which is said.
 pub(crate) fn is_closed(host: &mut Host, file: i32, name: &[u8]) -> bool {
-    if host.close(file) {
+    if host.close_written(file) {
         return true;
     }
     say_unwritten(host, name);
