@@ -3,8 +3,8 @@ use Rattle.console.specs.declared.Status.TheVariants.{Unwritten, Failed}
 use Rattle.station.proofs.Turns.{goes_badly, goes_as, goes_tape, unwritten_badly, failed_badly}
 use Rattle.station.proofs.outputs.make_next.Goals as goal
 
-pub returns-then-not-close : goal.returns-then-not-close
-returns-then-not-close c =
+pub returns-then-not-close_written : goal.returns-then-not-close_written
+returns-then-not-close_written c =
     goes_badly _ _ c.ended.result c.args.at Unwritten unwritten_badly c.ended.ensures
 
 pub returns-then-output-ge-MOST : goal.returns-then-output-ge-MOST
