@@ -24,7 +24,6 @@ use Rattle.system.specs.declared.walk.Judgement.{Judgement}
 use Rattle.words.specs.Bytes.{words_of}
 use Rattle.bytewise.proofs.Judged.{judged_count, accepted_counted}
 use Rattle.reader.specs.Take.{in_turn}
-use Rattle.reader.proofs.Judged.{accepted}
 use Rattle.reader.proofs.Taken.{measured_turn}
 use Rattle.refusal.proofs.Firsts.{same_number}
 use Rattle.bytewise.proofs.Theorems.{bytes_as_words}

@@ -24,8 +24,11 @@ returns-in-Failed c =
 
 pub returns-in-Ended : goal.returns-in-Ended
 returns-in-Ended c =
-    let a = c.args in record { turn = ap (λ (run : Run). record { run = run; at = a.at; have = a.have; done = true; failed = false }) c.close-closed.ensures
-          ∙ ap (λ (told : Told). turn_of a.run a.at a.have told a.buffer.now) (sym c.in-Ended.is); within = (c.requires.0, c.requires.1) }
+    let a = c.args in record {
+      turn = ap (λ (run : Run). record { run = run; at = a.at; have = a.have; done = true; failed = false }) c.close-closed.ensures
+          ∙ ap (λ (told : Told). turn_of a.run a.at a.have told a.buffer.now) (sym c.in-Ended.is);
+      within = (c.requires.0, c.requires.1);
+    }
 
 pub returns-in-Bytes : goal.returns-in-Bytes
 returns-in-Bytes c =

@@ -10,7 +10,6 @@ use Rattle.system.proofs.written_refusal.Goals as goal
 
 -- what the call of `is_fall` told is whether the system has such a fall line
 falls : (number fall : ℕ) (s : System) (t u : Bool) → s ≡ system_of number → t ≡ is_fall s fall → t ≡ u → is_fall (system_of number) fall ≡ u
-
 falls number fall s t u is e f = sym (ap (λ (x : System). is_fall x fall) is) ∙ sym e ∙ f
 
 pub returns-then-named-ne0 : goal.returns-then-named-ne0

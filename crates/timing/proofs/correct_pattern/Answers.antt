@@ -67,7 +67,6 @@ loop-fvh-preserved c = (
   omega arith,
   further _ _ _ (omega arith) c.loop-fvh.invariant.1 c.legal.ensures
       c.if-inverted-eq0.false c.if-inverted-eq1.false,
-
 )
 
 pub returns : goal.returns

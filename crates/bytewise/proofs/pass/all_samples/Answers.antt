@@ -17,7 +17,6 @@ loop-k-preserved c = (
       let both = c.higher-highest.ensures (rw (to_z-of_z {w = w16} {z = c.higher-highest.result} (record { sfits = c.higher-highest.type_inv })) at h) in
       let here = c.key.ensures (rw (to_z-of_z {w = w16} {z = c.key.result} (record { sfits = c.key.type_inv })) at both.1) in
       below_more _ _ (c.loop-k.invariant.1 both.0) (rw c.word_at.ensures at here),
-
 )
 
 pub returns : goal.returns

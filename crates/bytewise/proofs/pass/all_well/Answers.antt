@@ -21,11 +21,10 @@ pub returns-then-space-ne0 : goal.returns-then-space-ne0
 returns-then-space-ne0 c = λ e. absurd (true≢false (sym e))
 
 pub code_well-requires-2 : goal.code_well-requires-2
-code_well-requires-2 c =
-    (
-      omega (arith, c.sav_offset-sav.ensures, line_is_parts c.args.due.system),
-      c.requires.1.sav ∙ ap (λ (k : ℕ). correction_of (word_of_bytes c.args.bytes.now (2 * k + 6))) (sym c.sav_offset-sav.ensures),
-    )
+code_well-requires-2 c = (
+  omega (arith, c.sav_offset-sav.ensures, line_is_parts c.args.due.system),
+  c.requires.1.sav ∙ ap (λ (k : ℕ). correction_of (word_of_bytes c.args.bytes.now (2 * k + 6))) (sym c.sav_offset-sav.ensures),
+)
 
 pub returns-then-not-code_well-2 : goal.returns-then-not-code_well-2
 returns-then-not-code_well-2 c = λ e. absurd (true≢false (sym e))

@@ -15,12 +15,11 @@ pub loop-k-init : goal.loop-k-init
 loop-k-init c = (omega arith, λ e j l. absurd (omega arith))
 
 pub loop-k-preserved : goal.loop-k-preserved
-loop-k-preserved c =
-    (
-      omega arith,
-      still_well _ c.loop-k.well _ c.loop-k.k c.loop-k.invariant.1
-          (λ t. not_reserved _ (sym c.reserved.ensures ∙ not_true c.reserved.result t)),
-    )
+loop-k-preserved c = (
+  omega arith,
+  still_well _ c.loop-k.well _ c.loop-k.k c.loop-k.invariant.1
+      (λ t. not_reserved _ (sym c.reserved.ensures ∙ not_true c.reserved.result t)),
+)
 
 pub returns : goal.returns
 returns c = λ e j l. c.loop-k.invariant.1 e j (omega arith)
