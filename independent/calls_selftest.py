@@ -360,7 +360,8 @@ def calls_in(crate):
 def crates():
     for text in (REPO / "crates.txt").read_text().splitlines():
         if ":" in text and not text.startswith("#"):
-            yield text.split(":")[0]
+            # a static library's name has that word behind it
+            yield text.split(":")[0].split()[0]
 
 
 def every_call():

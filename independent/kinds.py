@@ -307,9 +307,10 @@ ASKED = {
 NOT_ASKED = {
     **dict.fromkeys(("cases", "line_cases", "recording_cases", "probe"), "the probe itself"),
     **dict.fromkeys(
-        ("console", "folder", "confirm", "station", "retention", "verbs", "command"),
+        ("host", "console", "folder", "confirm", "station", "retention", "verbs", "command"),
         "what the system has: compared as the command",
     ),
+    "capture_c": "the calls of capture once more, as exports",
     "speed": "reader, writer and serial once more, for the benchmark only",
     "system::Walk::of": "every walk that a kind brings is made by it",
 }
