@@ -18,6 +18,7 @@ from independent.recordings import Outcome, Run, header, line_bytes
 from independent.rows import ROW_BYTES, ROW_WORDS, row_of, with_word
 from independent.tapes import Tape
 from independent.totals import Totals, no_totals
+from independent.words import FIRST_SAMPLE, LAST_SAMPLE, REFUSALS
 
 BITS = (0, *CODE_BITS, 9, 32, 2**31, HIGHEST)
 
@@ -86,6 +87,7 @@ def expected_words(source):
         few = source.random.sample(fvhs, 2)
         for fvh in fvhs if word < 2_048 else few:
             yield protocol.EXPECTING, (word, fvh)
+            yield protocol.FOURTH_FAULT, (word, fvh)
 
 
 def code_reports(source):
@@ -371,6 +373,33 @@ def words_over(source):
             yield protocol.FIRST_OVER, (changed(one, {second: 1_024}),)
 
 
+def reasons(source):
+    """Every row of the table at edges and any place, and none."""
+    for row in range(len(REFUSALS) + 1):
+        for place in (0, 1, 1_439, HIGHEST, source.random.randrange(HIGHEST)):
+            yield protocol.REASONED, (row, place)
+
+
+def fill_words(source):
+    offsets = 0, 1, 4, 271, 1_727, 2**32, 2**64 - 2, 2**64 - 1
+    for even, odd in ((512, 64), (64, 512), (0, 65_535), (source.random.randrange(65_536), 7)):
+        for offset in offsets:
+            yield protocol.FILL_WORD, (even, odd, Wide(offset))
+
+
+def runs_of_samples(source):
+    """Every word alone; one word that is none at every place of short runs and at edges of long ones."""
+    yield protocol.ALL_SAMPLES, ([],)
+    for word in (*range(1_100), *EDGE_WORDS, *range(1_100, 65_536, 257)):
+        yield protocol.ALL_SAMPLES, ([word],)
+    for length in (2, 3, 8, 16, 17, 255, 1_440, 2_000):
+        words = source.random.choices(range(FIRST_SAMPLE, LAST_SAMPLE + 1), k=length)
+        yield protocol.ALL_SAMPLES, (words,)
+        for place in {0, 1, length // 2, length - 1}:
+            for none in (0, 3, 1_020, 1_023, 65_535):
+                yield protocol.ALL_SAMPLES, (changed(words, {place: none}),)
+
+
 def words_as_bytes(source):
     for count in (*range(6), *(figures.words for figures in judge.SYSTEMS.values()), 2_000):
         for size in {0, 1, 2, count, 2 * count - 2, 2 * count - 1, 2 * count, 2 * count + 1}:
@@ -654,6 +683,9 @@ FAMILIES = (
     judged_lengths,
     reserved_words,
     joined_words,
+    reasons,
+    fill_words,
+    runs_of_samples,
     words_over,
     words_as_bytes,
     row_lengths,

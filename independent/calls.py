@@ -12,6 +12,7 @@ from independent.judge import ACCEPTED, FRESH_STATE, WRONG_LENGTH, system_of
 from independent.protocol import Wide
 from independent.recordings import line_bytes
 from independent.totals import summed
+from independent.words import REFUSALS
 
 
 def fourth(fvh):
@@ -22,6 +23,10 @@ def fourth(fvh):
 def correct_expecting(word, fvh):
     # "The same correction, quick where the word is the fourth word of these F, V, H"
     return judge.correct(word)
+
+
+def fourth_fault(word, fvh):
+    return judge.fourth_word_number(fvh, word)
 
 
 def line_flags(system, line):
@@ -106,6 +111,20 @@ def write_part(due, part, between, active, words):
 def reserved(word):
     # "Whether a word is none of the samples 4 to 1019."
     return int(not judge.is_sample(word))
+
+
+def reasoned(row, place):
+    # A refusal of the table's row, counted from 1, at a place, and its reason's number; or, of row 0, none.
+    return (REFUSALS[row - 1], place, REFUSALS[row - 1]) if row else (*ACCEPTED, 0)
+
+
+def fill_word(even, odd, offset):
+    # "Fill by offset: a word for even and a word for odd offsets."
+    return odd if offset % 2 else even
+
+
+def all_samples(words):
+    return int(all(map(judge.is_sample, words)))
 
 
 def first_over(words):

@@ -345,16 +345,25 @@ def sums():
 
 
 def calls_in(crate):
-    """The public calls of a crate, by the names that a caller writes."""
+    """The public calls of a crate, by the names that a caller writes: a public trait's are its types'."""
+    of_traits, types = {}, {}
     for file in sorted((REPO / "crates" / crate / "src").glob("*.rt")):
-        owner = ""
+        owner, calls = "", None
         for text in file.read_text().splitlines():
             of_type = re.match(r"impl (\w+) \{", text)
+            of_trait = re.match(r"pub trait (\w+) \{", text)
             found = re.match(r'\s*pub (?:extern "C" )?fn (\w+)', text)
-            if of_type or text == "}":
+            if of_type or of_trait or text == "}":
                 owner = f"{of_type[1]}::" if of_type else ""
+                calls = of_traits.setdefault(of_trait[1], []) if of_trait else None
+            if met := re.match(r"impl (\w+) for (\w+) \{", text):
+                types.setdefault(met[1], []).append(met[2])
+            if calls is not None and (member := re.match(r"    (?:final )?fn (\w+)", text)):
+                calls.append(member[1])
             if found:
                 yield f"{crate}::{owner}{found[1]}"
+    for trait, calls in of_traits.items():
+        yield from (f"{crate}::{owner}::{call}" for owner in types.get(trait, ()) for call in calls)
 
 
 def crates():

@@ -72,6 +72,7 @@ LINES = {
 SHARED = {
     protocol.FOURTH: Kind(calls.fourth, ("fvh",), ("word",)),
     protocol.EXPECTING: Kind(calls.correct_expecting, ("word", "fvh"), CORRECTION),
+    protocol.FOURTH_FAULT: Kind(calls.fourth_fault, ("word", "fvh"), ("number",)),
     protocol.CODE_REPORT: Kind(judge.code_report, CORRECTION, ("tag", "bit")),
     protocol.FLAGS: Kind(calls.flags, ("line",), ("525 v", "525 f", "625 v", "625 f")),
     protocol.OWN_FRESH: Kind(judge.fresh, ("system", "start"), (*ANSWER, *WALK)),
@@ -106,6 +107,9 @@ SHARED = {
     protocol.TO_WORDS: Kind(calls.to_words, ("data", "words"), ANSWER),
     protocol.TO_BYTES: Kind(calls.to_bytes, ("words", "data"), ANSWER),
     protocol.STATE_FRESH: Kind(calls.fresh_state, (), STATE),
+    protocol.REASONED: Kind(calls.reasoned, ("row", "place"), (*ANSWER, "reason's number")),
+    protocol.FILL_WORD: Kind(calls.fill_word, ("even", "odd", "offset"), ("word",)),
+    protocol.ALL_SAMPLES: Kind(calls.all_samples, ("words",), ("all samples",)),
     protocol.JUDGE_SPACE: Kind(
         packets.judge_space, ("words", "start", "end", "even", "odd"), (*ANSWER, "packets")
     ),
@@ -205,6 +209,7 @@ ASKED = {
     protocol.CAPTURE_JUDGE: ("capture::fiskrogn_judge",),
     protocol.FOURTH: ("timing::fourth",),
     protocol.EXPECTING: ("timing::correct_expecting",),
+    protocol.FOURTH_FAULT: ("timing::fault",),
     protocol.CODE_REPORT: ("timing::code_report",),
     protocol.FLAGS: (
         "system::System525::v",
@@ -251,6 +256,9 @@ ASKED = {
     protocol.TO_WORDS: ("words::to_words",),
     protocol.TO_BYTES: ("words::to_bytes",),
     protocol.STATE_FRESH: ("serial::State::fresh",),
+    protocol.REASONED: ("refusal::Reason::number", "refusal::Reason::at", "refusal::Refusal::of"),
+    protocol.FILL_WORD: ("words::FillWords::at",),
+    protocol.ALL_SAMPLES: ("words::all_samples",),
     protocol.JUDGE_SPACE: ("packets::judge_space",),
     protocol.UNPACK: ("v210::unpack",),
     protocol.PACK: ("v210::pack",),

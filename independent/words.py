@@ -29,6 +29,11 @@ BAD_PARTS = 19  # "parts that don't fit", "ordinals that do not rise" and more
 BAD_RANGE = 20  # "a range that leaves the file or has a after b"
 NO_ENTRY = 22  # of crates/captions: an entry of a packets file that is none
 LAST_REFUSAL = NO_ENTRY
+REFUSALS = (
+    NO_SYSTEM, NO_LINE, WRONG_LENGTH, WRONG_COUNTS, OVER_A_WORD, NO_PREAMBLE, NO_BIT_9, HOPELESS_EVEN,
+    NOT_DUE, NO_FILL, RESERVED, NOT_A_SAMPLE, WRONG_STATE, HOPELESS_ODD, BAD_PARITY, BAD_CHECKSUM,
+    PAST_THE_SPACE, BAD_PARTS, BAD_RANGE, NO_ENTRY,
+)  # fmt: skip
 
 # "Every answer has a number and a place."; "0 | accepted | 0".
 ACCEPTED = (0, 0)

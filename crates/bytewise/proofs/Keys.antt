@@ -1,6 +1,6 @@
 -- The keys of samples, the lowest signed numbers, by their bits and by comparison. Assumes nothing.
-use Rattle.std.proofs.Common.{◌≡◌, ℕ, suc, ◌-◌, ◌<◌, ◌≤◌, Bool, true, false, ltb, ℤ, pos, negsuc, sym, refl, true≢false, arith, w16, to_z, ltb-false, ltb-true}
-use lib.Signed.{lt_z}
+use Rattle.std.proofs.Common.{◌≡◌, ℕ, suc, ◌-◌, ◌<◌, ◌≤◌, Bool, true, false, T, ltb, leb, ℤ, pos, negsuc, sym, refl, true≢false, arith, w16, to_z, ltb-false, ltb-true, leb-true}
+use Rattle.std.specs.Int.Signed.{lt_z, ◌≤ℤ◌}
 use mir.Val.{sel}
 use Rattle.bytewise.specs.Passes.{SampleKey}
 
@@ -13,20 +13,17 @@ key_bits n l = go (ltb n 32768) refl
     go true e h = absurd h
     go false e h = let g : 32768 ≤ n = ltb-false n 32768 e in (g, omega arith)
 
--- what lies below one of them, or at it, is one of them
-pub key_below : (a b : ℤ) → lt_z a b ≡ true → SampleKey b → SampleKey a
-unfolding SampleKey
-key_below (pos m) (pos n) e h = absurd h
-key_below (pos m) (negsuc n) e h = absurd (true≢false (sym e))
-key_below (negsuc m) (pos n) e h = absurd h
-key_below (negsuc m) (negsuc n) e h = let g : n < m = ltb-true n m e in omega arith
+true_of : (t : Bool) → T t → t ≡ true
+true_of true h = refl
+true_of false h = absurd h
 
-pub key_at_most : (a b : ℤ) → lt_z a b ≡ false → SampleKey a → SampleKey b
+-- what is at most one of them is one of them
+pub key_under : (a b : ℤ) → a ≤ℤ b → SampleKey b → SampleKey a
 unfolding SampleKey
-key_at_most (pos m) (pos n) e h = absurd h
-key_at_most (pos m) (negsuc n) e h = absurd h
-key_at_most (negsuc m) (pos n) e h = absurd (true≢false e)
-key_at_most (negsuc m) (negsuc n) e h = let g : m ≤ n = ltb-false n m e in omega arith
+key_under (pos m) (pos n) e h = absurd h
+key_under (pos m) (negsuc n) e h = absurd e.le
+key_under (negsuc m) (pos n) e h = absurd h
+key_under (negsuc m) (negsuc n) e h = let g : n ≤ m = leb-true n m (true_of (leb n m) e.le) in omega arith
 
 -- the test at the end
 pub key_test : (a : ℤ) → lt_z a (negsuc 31751) ≡ true → SampleKey a

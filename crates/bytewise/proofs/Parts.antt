@@ -1,11 +1,10 @@
 -- The words of a line told from its bytes: a line whose parts the fast pass found well has no fault, and lines with the same words have the same
 -- faults and packets. Assumes nothing.
-use Rattle.std.proofs.Common.{◌≡◌, ℕ, ◌+◌, ◌-◌, ◌*◌, ◌/◌, ◌<◌, ◌≤◌, true, false, List, length, take, sym, refl, ap, ◌∙◌, subst, ap₂, true≢false, arith, length-take-le, get_or-take}
+use Rattle.std.proofs.Common.{◌≡◌, ℕ, ◌+◌, ◌-◌, ◌*◌, ◌/◌, ◌<◌, ◌≤◌, true, false, List, Ok, length, take, sym, refl, ap, ◌∙◌, subst, ap₂, true≢false, arith, length-take-le, get_or-take}
 use Rattle.words.specs.Bytes.{word_of_bytes, words_of}
 use Rattle.words.specs.Passes.{Filled, Sampled}
 use Rattle.words.proofs.Bytes.{words_length, word_at_is}
-use Rattle.packets.specs.declared.Space.{Space}
-use Rattle.packets.specs.Fault.{word_at, space_of}
+use Rattle.packets.specs.Fault.{Space, word_at, space_of, space_told}
 use Rattle.packets.proofs.Local.{same_fault, same_space}
 use Rattle.system.specs.declared.due.Due.{Due}
 use Rattle.system.specs.Figures.{line_length, sav_offset, active_offset}
@@ -57,10 +56,11 @@ module _ (bytes : List ℕ) where
   module _ (due : Due) where
     -- all fill
     pub between_fill : Proper due.fill → Filled due.fill.even due.fill.odd (λ k. word_of_bytes bytes (8 + 2 * k)) ((sav_offset due.system - 4) / 2)
-        → between_space due (line_word bytes) ≡ record { number = 0; place = 0; packets = 0 }
+        → space_told (Ok 0) ≡ between_space due (line_word bytes)
     between_fill ok both =
-        between_filled due (line_word bytes) ok
-        (same_words (λ w. Filled due.fill.even due.fill.odd w ((sav_offset due.system - 4) / 2)) 8 between_offset (omega arith) both)
+        sym
+        (between_filled due (line_word bytes) ok
+        (same_words (λ w. Filled due.fill.even due.fill.odd w ((sav_offset due.system - 4) / 2)) 8 between_offset (omega arith) both))
 
     -- judged by words that were taken from the line's bytes
     pub between_taken : length bytes ≡ 2 * line_length due.system → (sav : ℕ) → sav ≡ sav_offset due.system → (words : List ℕ)
@@ -102,22 +102,22 @@ module _ (bytes : List ℕ) where
             counted = rw v refl;
           }
 
-    -- ---- the parts, with the SAV offset, the flags and the answer to the space between as the code has them
-    pub line_well : (sav eav-fvh sav-fvh : ℕ) (space : Space)
+    -- ---- the parts, with the SAV offset, the flags and the packets of the space between as the code has them
+    pub line_well : (sav eav-fvh sav-fvh packets : ℕ)
         → sav ≡ sav_offset due.system → eav-fvh ≡ flags_of due true → sav-fvh ≡ flags_of due false
         → CodeWell eav-fvh (λ k. word_of_bytes bytes (0 + 2 * k))
-        → space ≡ between_space due (line_word bytes) → space.number ≡ 0
+        → space_told (Ok packets) ≡ between_space due (line_word bytes)
         → CodeWell sav-fvh (λ k. word_of_bytes bytes (2 * sav + 2 * k))
-        → PlainActive due (line_word bytes) → LineWell due bytes (record { between = space.packets; active = 0 })
+        → PlainActive due (line_word bytes) → LineWell due bytes (record { between = packets; active = 0 })
     unfolding packets_in
-    line_well sav eav-fvh sav-fvh space is-sav in_eav in_sav eav is-space well code active =
+    line_well sav eav-fvh sav-fvh packets is-sav in_eav in_sav eav between code active =
         record {
           well = parts_well due (line_word bytes)
               (record {
                 eav = λ k l. let z : 0 + 2 * k ≡ 2 * k = omega arith in rw (← in_eav) (rw z at (eav k l));
-                between = sym (ap (λ (s : Space). s.number) is-space) ∙ well;
+                between = sym (ap (λ (s : Space). s.number) between);
                 sav = rw (← in_sav) (same_words (CodeWell sav-fvh) (2 * sav) (sav_offset due.system) (omega arith) code);
                 active = active.well;
               });
-          counted = rw (is-space, active.counted) refl;
+          counted = rw (← between, active.counted) refl;
         }

@@ -10,19 +10,21 @@ ghost use Rattle.system.specs.Figures.{line_length};
 ghost use Rattle.reader.specs.Judge.{judged_of};
 ghost use Rattle.bytewise.specs.Bytes.{judged_bytes};
 
-use crate::pass::{Codes, all_well};
-use system::{Judgement, System625, Walk};
+use crate::pass::{Line, word_at};
+use refusal::Refusal;
+use system::{Figures, Judgement, System625, Walk};
 
 // Judges so many words of bytes, copied into room that holds at least as many.
 fn judge_in(walk: Walk, bytes: &[u8], count: usize, room: &mut [u16]) -> Judgement
     requires { (length bytes.now ≡ 2 * count) × (count ≤ length room.old) }
     ensures { result ≡ judged_of walk (words_of bytes.now) }
 {
-    words::to_words(bytes, &mut room[0..count]);
+    words::to_words(bytes, &mut room[0..count]).unwrap();
     reader::judge(walk, &room[0..count])
 }
 
-// Judges so many words of bytes, at most as many as the longer line has.
+// Judges so many words of bytes, at most as many as the longer line has: slow, and apart from the quick pass, which needs no room for them.
+#[inline(never)]
 fn judge_words(walk: Walk, bytes: &[u8], count: usize) -> Judgement
     requires { (length bytes.now ≡ 2 * count) × (count ≤ line_length Lines625) }
     ensures { result ≡ judged_of walk (words_of bytes.now) }
@@ -35,17 +37,12 @@ fn judge_words(walk: Walk, bytes: &[u8], count: usize) -> Judgement
 pub fn judge(walk: Walk, bytes: &[u8]) -> Judgement
     ensures { result ≡ judged_bytes walk bytes.now }
 {
-    let size = walk.line_bytes();
-    let standing = walk.standing(bytes.len(), size);
-    if standing.number != 0 {
-        return Judgement::refused(walk, standing);
+    if let Err(refused) = walk.standing(bytes.len(), walk.line_bytes()) {
+        return Judgement::refused(walk, Refusal::from(refused));
     }
-    let due = walk.due(words::word_of(bytes[6], bytes[7]));
-    let codes = Codes::of(due, bytes);
-    let pass = all_well(due, bytes, codes);
-    if pass.well {
-        let packets = pass.packets;
-        return Judgement::accepted(walk, due, codes.report(), packets);
+    let line = Line::of(walk.due(word_at(bytes, 6)), bytes);
+    match line.pass() {
+        Some(packets) => Judgement::accepted(walk, line.due, line.report(), packets),
+        None => judge_words(walk, bytes, walk.line_words()),
     }
-    judge_words(walk, bytes, walk.line_words())
 }

@@ -77,8 +77,3 @@ module _ (least : ℕ) (e : Entry) where
       let w = c.within in
       let some : e.words ≡ 0 → ⊥ = λ z. omega arith in
       simp (lt-leb _ _ w.ordinal, le-ltb _ _ w.space, ne_eqb _ _ some, le-ltb _ _ w.words, le-ltb _ _ c.rises)
-
-  -- the last of the tests, where the others are false
-  pub last_test : e.ordinal < ordinal_bound → e.space ≤ most_space → (e.words ≡ 0 → ⊥) → e.words ≤ most_words → is_bad least e ≡ ltb (key_of e) least
-  unfolding is_bad
-  last_test o s n w = simp (lt-leb _ _ o, le-ltb _ _ s, ne_eqb _ _ n, le-ltb _ _ w)

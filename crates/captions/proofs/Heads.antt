@@ -1,50 +1,13 @@
--- A head as bytes: its six words are its twelve bytes, and the entry comes back. Assumes nothing.
-use Prim.Native.Nat.{ℕ, ◌+◌, ◌*◌, ◌/◌, ◌%◌, ◌^◌, ◌<◌}
-use mathlib.Core.Path.{◌≡◌, refl, ap, ap₂}
-use mathlib.Core.List.{List, [], ◌∷◌}
+-- A head as bytes: the entry comes back. Assumes nothing.
+use Prim.Native.Nat.{ℕ, ◌+◌, ◌*◌, ◌/◌, ◌^◌, ◌<◌}
+use mathlib.Core.Path.{◌≡◌}
 use native.Mathlib.Omega.{arith}
-use native.Mathlib.Numerals.{add-one}
-use lib.ListN.{length, get_or}
+use lib.ListN.{length}
 use Rattle.words.specs.Words.{tab_from}
-use Rattle.words.specs.Bytes.{word_of_bytes, bytes_of, number_from}
+use Rattle.words.specs.Bytes.{number_from}
 use Rattle.words.proofs.Tabs.{length_tab}
 use Rattle.captions.specs.declared.Entry.{Entry}
 use Rattle.captions.specs.Entry.{head_length, head_of, entry_of, Within}
-
--- ---- the words of a head
-module _ (head : List ℕ) where
-  pub of_two : (i w : ℕ) → w ≡ word_of_bytes head i → w ≡ number_from head i 2
-  unfolding number_from
-  of_two i w e = omega (arith, ap (λ (j : ℕ). get_or head j 0) (add-one i))
-
-  pub of_eight : (a b c d low high n : ℕ) → a ≡ word_of_bytes head 0 → b ≡ word_of_bytes head 2 → c ≡ word_of_bytes head 4 → d ≡ word_of_bytes head 6
-      → low ≡ a + 65536 * b → high ≡ c + 65536 * d → n ≡ low + high * 4294967296 → n ≡ number_from head 0 8
-  unfolding number_from
-  of_eight a b c d low high n e f g h l u s = omega arith
-
--- a head's bytes are those of six words
-pub head_words : (e : Entry) → bytes_of
-    (e.ordinal % 65536
-    ∷ e.ordinal / 65536 % 65536
-    ∷ e.ordinal / 4294967296 % 65536
-    ∷ e.ordinal / 281474976710656 % 65536
-    ∷ e.space % 65536
-    ∷ e.words % 65536
-    ∷ [])
-    ≡ head_of e
-unfolding bytes_of head_of tab_from
-head_words e =
-    then (omega arith)
-    (then (omega arith)
-    (then (omega arith)
-    (then (omega arith)
-    (then (omega arith)
-    (then (omega arith)
-    (then (omega arith)
-    (then (omega arith) (then (omega arith) (then (omega arith) (then (omega arith) (then (omega arith) refl)))))))))))
-  where
-    then : {a b : ℕ} {l m : List ℕ} → a ≡ b → l ≡ m → a ∷ l ≡ b ∷ m
-    then e f = ap₂ ◌∷◌ e f
 
 pub head_length_is : (e : Entry) → length (head_of e) ≡ head_length
 unfolding head_of

@@ -16,8 +16,7 @@ use Rattle.refusal.proofs.Cases.{not_true, or_either, or_left, or_right}
 use Rattle.refusal.proofs.Firsts.{same_number, written_accepted}
 use Rattle.refusal.proofs.Tables.{keeps_when, decides_when}
 use Rattle.captions.specs.declared.Entry.{Entry}
-use Rattle.captions.specs.declared.Head.{Head}
-use Rattle.captions.specs.Entry.{head_length, head_of, entry_of, Within, key_of, is_bad, head_refusal, told_head, head_judged, put_refusal, head_after}
+use Rattle.captions.specs.Entry.{Head, head_length, head_of, entry_of, Within, key_of, is_bad, head_refusal, told_head, head_judged, put_refusal, head_after}
 use Rattle.captions.specs.Refusals.{head_refusals}
 use Rattle.captions.proofs.Entries.{Bad, bad, bad_back, comes_back}
 use Rattle.captions.proofs.Heads.{head_length_is, entry_back}

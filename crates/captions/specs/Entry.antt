@@ -1,13 +1,15 @@
 -- The packets file beside a programme: entries one after another, each a line's ordinal from 0, a space, and the packet words of that space, low
 -- byte first. An entry is a head of twelve bytes, ordinal (8), space (2), words (2), and behind it two bytes for each word.
-use Rattle.std.specs.Prelude.{ℕ, ◌+◌, ◌*◌, ◌/◌, ◌%◌, ◌^◌, ◌<◌, ◌≤◌, List, Bool, cond, not, ◌||◌, ltb, leb, eqb, length}
+use Rattle.std.specs.Prelude.{ℕ, ◌+◌, ◌*◌, ◌/◌, ◌%◌, ◌^◌, ◌<◌, ◌≤◌, List, Bool, cond, not, ◌||◌, ltb, leb, eqb, length, Result, Ok, Err}
 use Rattle.refusal.specs.declared.Refusal.{Refusal}
 use Rattle.refusal.specs.Numbers.{wrong_length, bad_entry}
 use Rattle.refusal.specs.Answer.{refuse, written_by}
+use Rattle.refusal.specs.declared.Refused.{Refused}
+use Rattle.refusal.specs.Reasons.{number_of}
 use Rattle.words.specs.Words.{tab}
 use Rattle.words.specs.Bytes.{number_from}
 use Rattle.captions.specs.declared.Entry.{Entry}
-use Rattle.captions.specs.declared.Head.{Head}
+use Rattle.captions.specs.declared.Head as judged
 
 abbrev pub head_length : ℕ
 head_length = 12
@@ -61,6 +63,18 @@ is_bad least e =
 -- What refuses a head where this is the least key that may come: one that is no head, and one that tells no entry.
 unfoldable pub head_refusal : ℕ → List ℕ → Refusal
 head_refusal least head = refuse (not (eqb (length head) head_length) || is_bad least (entry_of head)) bad_entry 0
+
+-- the answer to a head: its number, the entry, and the least key that may come next
+pub record Head : Type 0 where
+  pub number : ℕ
+  pub entry : Entry
+  pub least : ℕ
+
+-- the answer that a result tells, where this was the least key that might come
+abbrev pub judged_told : ℕ → Result judged.Head Refused → Head
+judged_told least (Ok head) = record { number = 0; entry = head.entry; least = head.least }
+judged_told least (Err refused) =
+    record { number = number_of refused.reason; entry = record { ordinal = 0; space = 0; words = 0 }; least = least }
 
 -- the answer to a head that tells an entry: with it the least key that may come next
 abbrev pub told_head : Entry → Head

@@ -1,16 +1,16 @@
 // The packets file beside a programme: the heads of its entries, put and judged.
 #![tactic(auto)]
 
-ghost use Rattle.std.specs.Prelude.{◌≡◌, ◌+◌, ◌%◌, ◌<◌, ◌≤◌, length};
-ghost use Rattle.words.specs.Bytes.{word_of_bytes, number_from};
-ghost use Rattle.captions.specs.Entry.{head_length, most_space, ordinal_bound, entry_of, key_of, head_of, is_bad, head_judged, put_refusal, head_after};
+ghost use Rattle.std.specs.Prelude.{◌≡◌, ◌+◌, ◌<◌, ◌≤◌, length};
+ghost use Rattle.refusal.specs.Reasons.{answered};
+ghost use Rattle.captions.specs.Entry.{head_length, most_space, ordinal_bound, entry_of, key_of, head_of, is_bad, head_refusal, head_judged, judged_told, put_refusal, head_after};
 
-use refusal::{Number, Refusal};
+use refusal::{Reason, Refused};
 
 // The bytes of a head: ordinal (8), space (2), words (2), low byte first.
 pub const HEAD_LENGTH: usize = 12;
 
-// The spaces of a line: the one between EAV and SAV, and the active part.
+// The spaces of a line: the one between EAV and SAV, and the active part. Numbers, since bytes may tell any in Entry::space.
 pub const BETWEEN: u32 = 0;
 
 pub const ACTIVE: u32 = 1;
@@ -22,65 +22,32 @@ pub const MOST_WORDS: usize = 1440;
 const ORDINAL_BOUND: u64 = 1 << 62;
 
 // What a head tells: a line's ordinal from 0, a space (0 between EAV and SAV, 1 the active part), and how many packet words follow.
-#[derive(Clone, Copy)]
+#[derive(Clone, Copy, Debug, PartialEq, Eq)]
 pub struct Entry {
     pub ordinal: u64,
     pub space: u32,
     pub words: u32,
 }
 
-// The answer to a head: its number, the entry, and the least key that may come next.
-#[derive(Clone, Copy)]
+// A head that is judged well: the entry, and the least key that may come next.
+#[derive(Clone, Copy, Debug, PartialEq, Eq)]
 pub struct Head {
-    pub number: u32,
     pub entry: Entry,
     pub least: u64,
 }
 
-impl Head {
-    // A refused head: an entry all zero, and the least key as it was.
-    fn refused(least: u64) -> Head
-        ensures { result ≡ record { number = 22; entry = record { ordinal = 0; space = 0; words = 0 }; least = least } }
-    {
-        Head {
-            number: Number::BAD_ENTRY,
-            entry: Entry {
-                ordinal: 0,
-                space: 0,
-                words: 0,
-            },
-            least,
-        }
-    }
-}
-
-// The number of the two bytes at an offset of a head.
-fn two(head: &[u8], at: usize) -> u16
-    requires { at + 2 ≤ length head.now }
-    ensures { result ≡ word_of_bytes head.now at }
-{
-    words::word_of(head[at], head[at + 1])
-}
-
-// The number of the eight bytes at a head's start.
-fn eight(head: &[u8]) -> u64
-    requires { length head.now ≡ head_length }
-    ensures { result ≡ number_from head.now 0 8 }
-{
-    let low = words::pair_of(two(head, 0), two(head, 2));
-    let high = words::pair_of(two(head, 4), two(head, 6));
-    low as u64 + (high as u64) * (1 << 32)
-}
-
 // The entry that a head tells.
+#[tactic(auto, unfolding(crate::specs::Entry::entry_of, words::specs::Bytes::number_from))]
 fn entry_of(head: &[u8]) -> Entry
     requires { length head.now ≡ head_length }
     ensures { result ≡ entry_of head.now }
 {
     Entry {
-        ordinal: eight(head),
-        space: two(head, 8) as u32,
-        words: two(head, 10) as u32,
+        ordinal: u64::from_le_bytes([
+            head[0], head[1], head[2], head[3], head[4], head[5], head[6], head[7],
+        ]),
+        space: u32::from(u16::from_le_bytes([head[8], head[9]])),
+        words: u32::from(u16::from_le_bytes([head[10], head[11]])),
     }
 }
 
@@ -89,84 +56,60 @@ fn key_of(entry: Entry) -> u64
     requires { (entry.ordinal < ordinal_bound) × (entry.space ≤ most_space) }
     ensures { result ≡ key_of entry }
 {
-    2 * entry.ordinal + entry.space as u64
+    2 * entry.ordinal + u64::from(entry.space)
 }
 
 // Whether an entry is none where this is the least key that may come.
+#[tactic(auto, unfolding(crate::specs::Entry::is_bad))]
 fn is_bad(least: u64, entry: Entry) -> bool
     ensures { result ≡ is_bad least entry }
 {
-    if ORDINAL_BOUND <= entry.ordinal {
-        return true;
-    }
-    if ACTIVE < entry.space {
-        return true;
-    }
-    if entry.words == 0 {
-        return true;
-    }
-    if MOST_WORDS < entry.words as usize {
-        return true;
-    }
-    key_of(entry) < least
+    ORDINAL_BOUND <= entry.ordinal
+        || ACTIVE < entry.space
+        || entry.words == 0
+        || MOST_WORDS < entry.words as usize
+        || key_of(entry) < least
 }
 
 // Judges the head of an entry, where this is the least key that may come: 22 for one that is no head, a line or a space that there is not, no
 // words or more than a space holds, and one that does not rise.
-pub fn judge_head(least: u64, head: &[u8]) -> Head
-    ensures { result ≡ head_judged least head.now }
+#[tactic(auto, using(crate::proofs::Entries::comes), unfolding(crate::specs::Entry::head_judged, crate::specs::Entry::head_refusal))]
+pub fn judge_head(least: u64, head: &[u8]) -> Result<Head, Refused>
+    ensures answer { judged_told least result ≡ head_judged least head.now }
+    ensures refusal { answered result ≡ head_refusal least head.now }
 {
     if head.len() != HEAD_LENGTH {
-        return Head::refused(least);
+        return Err(Reason::BadEntry.at(0));
     }
     let entry = entry_of(head);
     if is_bad(least, entry) {
-        return Head::refused(least);
+        return Err(Reason::BadEntry.at(0));
     }
-    Head {
-        number: 0,
+    Ok(Head {
         entry,
         least: key_of(entry) + 1,
-    }
+    })
 }
 
-// The lowest sixteen bits of a number.
-fn low(number: u64) -> u16
-    ensures { result ≡ number % 65536 }
-{
-    (number % 65536) as u16
-}
-
-// Fills a head with the words of an entry, two bytes each.
+// Fills a head with an entry.
 fn fill_head(entry: Entry, head: &mut [u8])
     requires { length head.old ≡ head_length }
     ensures { head.new ≡ head_of entry }
 {
-    let ordinal = entry.ordinal;
-    words::to_bytes(
-        &[
-            low(ordinal),
-            low(ordinal / 65536),
-            low(ordinal / 4294967296),
-            low(ordinal / 281474976710656),
-            low(entry.space as u64),
-            low(entry.words as u64),
-        ],
-        head,
-    );
+    head[..8].copy_from_slice(&entry.ordinal.to_le_bytes());
+    head[8..10].copy_from_slice(&entry.space.to_le_bytes()[..2]);
+    head[10..].copy_from_slice(&entry.words.to_le_bytes()[..2]);
 }
 
 // Puts the head of an entry into bytes: 3 where they are not twelve, and then nothing is written. Of space and words the low 16 bits count.
-pub fn put_head(entry: Entry, head: &mut [u8]) -> Refusal
-    ensures answer { result ≡ put_refusal (length head.old) }
+#[tactic(auto, unfolding(crate::specs::Entry::head_after, refusal::specs::Answer::written_by))]
+pub fn put_head(entry: Entry, head: &mut [u8]) -> Result<(), Refused>
+    ensures answer { answered result ≡ put_refusal (length head.old) }
     ensures head { head.new ≡ head_after entry head.old }
 {
     if head.len() != HEAD_LENGTH {
-        return Refusal {
-            number: Number::WRONG_LENGTH,
-            place: 0,
-        };
+        return Err(Reason::WrongLength.at(0));
     }
     fill_head(entry, head);
-    Refusal::NONE
+    Ok(())
 }

@@ -1,10 +1,10 @@
-// What the capture process calls from C: include/fiskrogn.h tells it to a C programmer.
+// What the capture process calls from C, which lends and is answered numbers: include/fiskrogn.h tells it to a C programmer.
 #![tactic(auto)]
 
 ghost use Rattle.std.specs.Prelude.{◌≡◌};
 ghost use Rattle.capture.specs.Answer.{correct_answer, judge_answer};
 
-use refusal::Number;
+use refusal::Reason;
 use system::Walk;
 use timing::Correction;
 use words::MOST_WORD;
@@ -14,13 +14,12 @@ use words::MOST_WORD;
 pub fn fiskrogn_correct(word: u32) -> u32
     ensures { result ≡ correct_answer word }
 {
-    if (MOST_WORD as u32) < word {
-        return 65536 * Number::OVER;
+    if u32::from(MOST_WORD) < word {
+        return 65536 * Reason::Over.number();
     }
-    let correction = timing::correct(word as u16);
-    match correction {
-        Correction::Clean { fvh } => wide(timing::fourth(fvh)),
-        Correction::Repaired { fvh, bit } => wide(timing::fourth(fvh)) + 4096 * bit,
+    match timing::correct(word as u16) {
+        Correction::Clean { fvh } => u32::from(timing::fourth(fvh)),
+        Correction::Repaired { fvh, bit } => u32::from(timing::fourth(fvh)) + 4096 * bit,
         Correction::Refused { number } => 65536 * number,
     }
 }
@@ -44,12 +43,5 @@ pub fn fiskrogn_judge(
     if judgement.number != 0 {
         return 65536 * judgement.number + judgement.place as u32;
     }
-    let report = judgement.report;
-    system::repairs(report)
-}
-
-fn wide(word: u16) -> u32
-    ensures { result ≡ word }
-{
-    word as u32
+    system::repairs(judgement.report)
 }

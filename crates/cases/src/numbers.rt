@@ -1,5 +1,5 @@
 // The numbers of an answer, by value: a call that hands on one number costs far less to prove than one that is lent the answer.
-use refusal::Refusal;
+use refusal::{Refusal, Refused};
 use system::{Judgement, PacketWords, Walk};
 use timing::{CodeReport, Report};
 
@@ -41,36 +41,36 @@ impl Numbers {
     }
 
     pub fn with(self, number: u32) -> Numbers {
-        let list = self.list;
-        with_next(self.count, list, number)
+        with_next(self.count, self.list, number)
     }
 
     pub fn with_byte(self, byte: u8) -> Numbers {
-        self.with(byte as u32)
+        self.with(u32::from(byte))
     }
 
     // 1 for what is so, 0 for what is not.
     pub fn with_truth(self, is_so: bool) -> Numbers {
-        self.with(is_so as u32)
+        self.with(u32::from(is_so))
     }
 
     // A number of 64 bits, the lower half first.
     pub fn with_wide(self, wide: u64) -> Numbers {
-        self.with((wide % 4294967296) as u32)
-            .with((wide / 4294967296) as u32)
+        let [a, b, c, d, e, f, g, h] = wide.to_le_bytes();
+        self.with(u32::from_le_bytes([a, b, c, d]))
+            .with(u32::from_le_bytes([e, f, g, h]))
     }
 
     // A place, or a count, as a number: each that a call answers is within 32 bits.
     pub fn with_place(self, place: usize) -> Numbers {
-        if 4294967295 < place {
-            let list = self.list;
-            return with_next(MOST_NUMBERS, list, 0);
+        match u32::try_from(place) {
+            Ok(number) => self.with(number),
+            Err(_) => with_next(MOST_NUMBERS, self.list, 0),
         }
-        self.with(place as u32)
     }
 
-    pub fn of_refusal(refusal: Refusal) -> Numbers {
-        Numbers::one(refusal.number).with_place(refusal.place)
+    pub fn of_result(answered: Result<(), Refused>) -> Numbers {
+        let answer = Refusal::of(answered);
+        Numbers::one(answer.number).with_place(answer.place)
     }
 
     pub fn with_walk(self, walk: Walk) -> Numbers {
@@ -91,9 +91,8 @@ impl Numbers {
     }
 
     fn with_report(self, report: Report) -> Numbers {
-        let eav = report.eav;
-        let sav = report.sav;
-        self.with_code_report(eav).with_code_report(sav)
+        self.with_code_report(report.eav)
+            .with_code_report(report.sav)
     }
 
     fn with_packets(self, packets: PacketWords) -> Numbers {

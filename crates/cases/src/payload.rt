@@ -1,31 +1,18 @@
 // What a payload brings.
-use std::num::wrapping_add_usize;
 use system::Walk;
 use timing::{CodeReport, Report};
 
-fn pair(low: u8, high: u8) -> u16 {
-    low as u16 + 256 * (high as u16)
-}
-
-fn joined(low: u16, high: u16) -> u32 {
-    low as u32 + 65536 * (high as u32)
-}
-
-fn joined_wide(low: u32, high: u32) -> u64 {
-    low as u64 + 4294967296 * (high as u64)
+// The bytes at an offset, as many as are wanted: none where the payload is too short for them.
+fn bytes_at<const N: usize>(payload: &[u8], at: usize) -> [u8; N] {
+    match payload.get(at..).and_then(|rest| rest.first_chunk()) {
+        Some(bytes) => *bytes,
+        None => [0; N],
+    }
 }
 
 // The number at an offset: 0 where the payload is too short for it.
 pub fn number(payload: &[u8], at: usize) -> u32 {
-    if payload.len() < 4 {
-        return 0;
-    }
-    if payload.len() - 4 < at {
-        return 0;
-    }
-    let low = pair(payload[at], payload[at + 1]);
-    let high = pair(payload[at + 2], payload[at + 3]);
-    joined(low, high)
+    u32::from_le_bytes(bytes_at(payload, at))
 }
 
 // The number at an offset, where it counts what a slice holds.
@@ -35,18 +22,12 @@ pub fn count(payload: &[u8], at: usize) -> usize {
 
 // The number of 64 bits at an offset, the lower half first: 0 where the payload is too short for it.
 pub fn wide(payload: &[u8], at: usize) -> u64 {
-    if payload.len() < 8 {
-        return 0;
-    }
-    if payload.len() - 8 < at {
-        return 0;
-    }
-    joined_wide(number(payload, at), number(payload, at + 4))
+    u64::from_le_bytes(bytes_at(payload, at))
 }
 
 // The number so many numbers behind an offset.
 fn next(payload: &[u8], at: usize, numbers: u8) -> u32 {
-    number(payload, wrapping_add_usize(at, 4 * (numbers as usize)))
+    number(payload, at.wrapping_add(4 * usize::from(numbers)))
 }
 
 // The bytes of the numbers that tell a walk.
@@ -82,10 +63,7 @@ pub fn report(payload: &[u8], at: usize) -> Report {
 
 // The byte at an offset: 0 past the end.
 fn byte(payload: &[u8], at: usize) -> u8 {
-    if payload.len() <= at {
-        return 0;
-    }
-    payload[at]
+    payload.get(at).copied().unwrap_or(0)
 }
 
 // The offset behind a byte: one past the end stays there.
@@ -96,68 +74,53 @@ fn behind(payload: &[u8], at: usize) -> usize {
     at + 1
 }
 
-// Takes a slice of words from an offset on, and tells the offset after it: past the end where the payload is too short.
-fn take_words(payload: &[u8], at: usize, words: &mut [u16]) -> usize {
+// Takes a slice of words from an offset on: 0 for each byte that the payload is too short for.
+fn take_words(payload: &[u8], at: usize, words: &mut [u16]) {
     let mut next = at;
-    for k in 0..words.len() {
+    for word in words.iter_mut() {
         let high = behind(payload, next);
-        words[k] = pair(byte(payload, next), byte(payload, high));
+        *word = u16::from_le_bytes([byte(payload, next), byte(payload, high)]);
         next = behind(payload, high);
     }
-    next
 }
 
 // Takes a slice of bytes in the same way.
-fn take_bytes(payload: &[u8], at: usize, bytes: &mut [u8]) -> usize {
+fn take_bytes(payload: &[u8], at: usize, bytes: &mut [u8]) {
     let mut next = at;
-    for k in 0..bytes.len() {
-        bytes[k] = byte(payload, next);
+    for taken in bytes.iter_mut() {
+        *taken = byte(payload, next);
         next = behind(payload, next);
     }
-    next
 }
 
-// The offset behind a slice of words whose count stands at another: past the end where there are more than the most.
-pub fn after_words(payload: &[u8], most: usize, at_count: usize, at: usize) -> usize {
-    let word_count = count(payload, at_count);
-    if most < word_count {
+// The offset behind a slice whose count stands at another, of elements of this size: past the end where there are more than the most.
+fn after(payload: &[u8], most: usize, size: usize, at_count: usize, at: usize) -> usize {
+    let taken = count(payload, at_count);
+    if most < taken {
         return payload.len() + 1;
     }
-    wrapping_add_usize(at, wrapping_add_usize(word_count, word_count))
+    at.wrapping_add(taken.wrapping_mul(size))
+}
+
+// The offset behind a slice of words.
+pub fn after_words(payload: &[u8], most: usize, at_count: usize, at: usize) -> usize {
+    after(payload, most, 2, at_count, at)
 }
 
 // The same of bytes.
 pub fn after_bytes(payload: &[u8], most: usize, at_count: usize, at: usize) -> usize {
-    let byte_count = count(payload, at_count);
-    if most < byte_count {
-        return payload.len() + 1;
-    }
-    wrapping_add_usize(at, byte_count)
+    after(payload, most, 1, at_count, at)
 }
 
 // The bytes from one offset to another: none where the payload does not have them.
 pub fn part(payload: &[u8], from: usize, to: usize) -> &[u8] {
-    if payload.len() < to {
-        return &payload[0..0];
-    }
-    if to < from {
-        return &payload[0..0];
-    }
-    &payload[from..to]
+    payload.get(from..to).unwrap_or(&payload[..0])
 }
 
-fn first_words(words: &mut [u16], word_count: usize) -> &mut [u16] {
-    if words.len() < word_count {
-        return &mut words[0..0];
-    }
-    &mut words[0..word_count]
-}
-
-fn first_bytes(bytes: &mut [u8], byte_count: usize) -> &mut [u8] {
-    if bytes.len() < byte_count {
-        return &mut bytes[0..0];
-    }
-    &mut bytes[0..byte_count]
+// The first of a slice, so many: none where it has fewer.
+fn first<T>(room: &mut [T], wanted: usize) -> &mut [T] {
+    let most = if room.len() < wanted { 0 } else { wanted };
+    &mut room[..most]
 }
 
 fn filled_words<'a>(payload: &[u8], at: usize, words: &'a mut [u16]) -> &'a mut [u16] {
@@ -177,7 +140,7 @@ pub fn taken_words<'a>(
     at: usize,
     room: &'a mut [u16],
 ) -> &'a mut [u16] {
-    filled_words(payload, at, first_words(room, count(payload, at_count)))
+    filled_words(payload, at, first(room, count(payload, at_count)))
 }
 
 // The same of bytes.
@@ -187,5 +150,5 @@ pub fn taken_bytes<'a>(
     at: usize,
     room: &'a mut [u8],
 ) -> &'a mut [u8] {
-    filled_bytes(payload, at, first_bytes(room, count(payload, at_count)))
+    filled_bytes(payload, at, first(room, count(payload, at_count)))
 }

@@ -1,7 +1,11 @@
 -- Where a loop over the bytes that lie ready stands: what it still has to do comes to the whole. Each turn of the loop is one of the
 -- definition's, and keeps that. Assumes nothing.
-use Rattle.std.proofs.Common.{◌≡◌, ℕ, zero, suc, ◌+◌, ◌-◌, ◌<◌, ◌≤◌, List, length, take, drop, sym, refl, ap, ◌∙◌, arith, length-drop, drop-drop}
+use Rattle.std.proofs.Common.{◌≡◌, ℕ, zero, suc, ◌+◌, ◌-◌, ◌<◌, ◌≤◌, false, true≢false, List, length, take, drop, sym, refl, ap, ◌∙◌, arith, length-drop, drop-drop}
+use Rattle.std.specs.Prelude.{Result, Ok, Err}
+use Rattle.std.specs.Result.{is_err}
 use Rattle.refusal.specs.declared.Refusal.{Refusal}
+use Rattle.refusal.specs.declared.Refused.{Refused}
+use Rattle.refusal.specs.Reasons.{answered}
 use Rattle.refusal.proofs.Firsts.{same_number}
 use Rattle.system.specs.Walk.{walk_refusal, line_bytes}
 use Rattle.confirmation.specs.declared.Run.{Run}
@@ -10,6 +14,11 @@ use Rattle.confirmation.specs.Follow.{follow_from, followed_of}
 use Rattle.confirmation.proofs.Nexts.{next_refused, next_line_bytes}
 use Rattle.confirmation.proofs.Bodies.{line_has_bytes}
 use Rattle.confirmation.proofs.Follows.{Ready, follow_rests, follow_barred, follow_whole}
+
+-- a result that does not refuse
+pub ok_accepts : {A : Type 0} (r : Result A Refused) → is_err r ≡ false → (answered r).number ≡ 0
+ok_accepts (Ok x) e = refl
+ok_accepts (Err refused) e = absurd (true≢false e)
 
 -- the loop stands at this offset with this run: the same is left to do, and the turns suffice for it
 pub record Reached (bytes : List ℕ) (size : ℕ) (first run : Run) (at : ℕ) : Type 0 where

@@ -14,7 +14,8 @@ use words::word_of;
 // The bytes of a header: two words.
 const HEADER_LENGTH: usize = 4;
 
-// A run: its header's numbers, the walk over its lines, and the refusal that ended it, or 0.
+// A run: its header's numbers, the walk over its lines, and the refusal that ended it, or 0. Numbers and no `Result`: `followed_of`, `closed_of` and
+// `outcome_of` say what a run of any numbers comes to.
 #[derive(Clone, Copy)]
 pub struct Run {
     pub system: u32,
@@ -31,7 +32,7 @@ pub struct Followed {
     pub taken: usize,
 }
 
-// The numbers of the confirming program's five lines.
+// The numbers of the confirming program's five lines, as they are printed.
 #[derive(Clone, Copy)]
 pub struct Outcome {
     pub system: u32,
@@ -43,7 +44,7 @@ pub struct Outcome {
     pub place: usize,
 }
 
-// The word at a byte of a header. Under four bytes of header it is 0.
+// The word at a byte of a header. Under four bytes of header it is 0, as the document says.
 fn header_word(header: &[u8], at: usize) -> u32
     requires { at + 2 ≤ header_length }
     ensures { result ≡ header_word header.now at }
@@ -51,7 +52,7 @@ fn header_word(header: &[u8], at: usize) -> u32
     if header.len() < HEADER_LENGTH {
         return 0;
     }
-    word_of(header[at], header[at + 1]) as u32
+    u32::from(word_of(header[at], header[at + 1]))
 }
 
 impl Run {
@@ -60,17 +61,17 @@ impl Run {
         ensures { result ≡ fresh_run system start }
     {
         let fresh = system::fresh_walk(system, start);
-        let walk = fresh.walk;
         Run {
             system,
             start,
-            walk,
+            walk: fresh.walk,
             number: fresh.number,
             place: fresh.place,
         }
     }
 
     // A run from its header, the first four bytes: a fresh walk, or its refusal. Under four bytes count as system 0, start 0.
+    #[tactic(auto, unfolding(crate::specs::Run::begun_of))]
     pub fn begin(header: &[u8]) -> Run
         ensures { result ≡ begun_of header.now }
     {
@@ -81,17 +82,16 @@ impl Run {
     pub fn judged(self, judgement: Judgement) -> Run
         ensures { result ≡ run_after self judgement }
     {
-        let walk = judgement.walk;
         Run {
-            system: self.system,
-            start: self.start,
-            walk,
+            walk: judgement.walk,
             number: judgement.number,
             place: judgement.place,
+            ..self
         }
     }
 
     // The run after these bytes were judged as its next line: short of a line they are 3, after 10,000,000 lines 4.
+    #[tactic(auto, unfolding(crate::specs::Run::judged_next))]
     pub fn next(self, bytes: &[u8]) -> Run
         ensures { result ≡ judged_next self bytes.now }
     {
@@ -103,13 +103,12 @@ impl Run {
     pub fn follow(self, bytes: &[u8]) -> Followed
         ensures { result ≡ followed_of self bytes.now }
     {
-        let walk = self.walk;
-        let size = walk.line_bytes();
+        let size = self.walk.line_bytes();
         let mut run = self;
         let mut at: usize = 0;
+        // The offset is counted by hand: how far it came is part of the answer.
         while run.number == 0 && at < bytes.len() {
-            let walk = run.walk;
-            if walk.refusal().number != 0 {
+            if run.walk.refusal().is_err() {
                 let ended = run.next(&bytes[at..]);
                 return Followed {
                     run: ended,
@@ -127,31 +126,29 @@ impl Run {
     }
 
     // The run at the end of the input, with the bytes that were left.
+    #[tactic(auto, unfolding(crate::specs::Follow::closed_of))]
     pub fn close(self, bytes: &[u8]) -> Run
         ensures { result ≡ closed_of self bytes.now }
     {
-        if self.number != 0 {
-            return self;
-        }
-        if bytes.len() == 0 {
+        if self.number != 0 || bytes.is_empty() {
             return self;
         }
         self.next(bytes)
     }
 
     // The numbers that the program prints.
+    #[tactic(auto, unfolding(crate::specs::Run::outcome_of))]
     pub fn outcome(self) -> Outcome
         ensures { result ≡ outcome_of self }
     {
         let walk = self.walk;
-        let line = if self.number < 3 { 0 } else { walk.line };
         Outcome {
             system: self.system,
             start: self.start,
             lines: walk.lines,
             repairs: walk.repairs,
             number: self.number,
-            line,
+            line: if self.number < 3 { 0 } else { walk.line },
             place: self.place,
         }
     }

@@ -7,6 +7,7 @@ use host::Host;
 use system::Walk;
 
 // A header: the system and the first line as words.
+#[tactic(auto, using(refusal::proofs::Results::ok_written, words::proofs::Bytes::pairs_accepted))]
 fn fill_header(walk: Walk, header: &mut [u8])
     requires { length header.old ≡ header_length }
     ensures { header.new ≡ bytes_of (walk.system % 65536 ∷ walk.line % 65536 ∷ []) }
@@ -14,7 +15,8 @@ fn fill_header(walk: Walk, header: &mut [u8])
     words::to_bytes(
         &[(walk.system % 65536) as u16, (walk.line % 65536) as u16],
         header,
-    );
+    )
+    .unwrap();
 }
 
 // Writes the header of a recording that begins with this walk. True where all of it was written.

@@ -10,14 +10,16 @@ ghost use Rattle.std.specs.Prelude.{◌≡◌, ◌-◌, ◌<◌, ◌≤◌, fals
 ghost use Rattle.intake.specs.Arrival.{told_of, so_far, filled_after};
 ghost use Rattle.console.specs.Status.{code_of, ended_of, unread_of, begun_read};
 
+use arrayvec::ArrayVec;
 use confirmation::{Outcome, Run, Totals};
 pub use header::put_header;
 use host::{ERRORS, Host, INPUT, OUTPUT};
 use intake::Filled;
 pub use name::{put, say_name};
 pub use refused::{say_place, say_refused, say_refused_file};
+use std::io::Write;
 use std::num::wrapping_add_u64;
-use system::{System, System525, System625, Walk};
+use system::{Figures, System, System525, System625, Walk};
 
 // How many turns pass between two reports of progress.
 const TURNS_A_REPORT: u64 = 4096;
@@ -41,10 +43,7 @@ impl Status {
         match self {
             Status::Done => 0,
             Status::Refused => 1,
-            Status::Unread => 2,
-            Status::Shortened => 2,
-            Status::Unwritten => 2,
-            Status::Failed => 2,
+            Status::Unread | Status::Shortened | Status::Unwritten | Status::Failed => 2,
         }
     }
 
@@ -59,7 +58,7 @@ impl Status {
     }
 }
 
-// A run over a recording, and how it ended.
+// A run over a recording, and how it ended: what was read is told however that was, so this is no Result.
 #[derive(Clone, Copy)]
 pub struct Read {
     pub run: Run,
@@ -68,19 +67,16 @@ pub struct Read {
 
 impl Read {
     // A run that came to its end or to a refusal.
+    #[tactic(auto, unfolding(crate::specs::Status::ended_of))]
     pub fn ended(run: Run) -> Read
         ensures { result ≡ ended_of run }
     {
-        if run.number == 0 {
-            return Read {
-                run,
-                status: Status::Done,
-            };
-        }
-        Read {
-            run,
-            status: Status::Refused,
-        }
+        let status = if run.number == 0 {
+            Status::Done
+        } else {
+            Status::Refused
+        };
+        Read { run, status }
     }
 
     // A run that could not be read on.
@@ -95,6 +91,7 @@ impl Read {
 }
 
 // What a buffer with so many bytes comes to after a read with this count into what was left of it.
+#[tactic(auto, using(crate::proofs::Fills::filled_within))]
 fn filled_by(got: isize, have: usize, buffer: &[u8]) -> Filled
     requires { have ≤ length buffer.now }
     ensures turn { result ≡ filled_after (so_far have) (told_of got (length buffer.now - have)) (length buffer.now - have) }
@@ -104,38 +101,21 @@ fn filled_by(got: isize, have: usize, buffer: &[u8]) -> Filled
     Filled::so_far(have).after(told, buffer.len() - have)
 }
 
-// Where bytes are read: where the last read ended, or from an offset of a file on.
-#[derive(Clone, Copy)]
-struct From {
-    is_offset: bool,
-    offset: u64,
-}
-
 // The place so many bytes behind an offset. No file has as many bytes as this wraps at.
 fn position(offset: u64, have: usize) -> u64 {
     wrapping_add_u64(offset, have as u64) % (1 << 62)
 }
 
-// Reads once into what is left of a buffer.
-fn fill_on(host: &mut Host, input: i32, from: From, have: usize, buffer: &mut [u8]) -> Filled
-    requires { have ≤ length buffer.old }
-    ensures { (result.have ≤ length buffer.new) × (result.done ≡ false → have < result.have) }
-{
-    if from.is_offset {
-        let got = host.read_at(input, &mut buffer[have..], position(from.offset, have));
-        return filled_by(got, have, buffer);
-    }
-    let got = host.read(input, &mut buffer[have..]);
-    filled_by(got, have, buffer)
-}
-
-// Reads until the buffer is full, the input ends or a read fails: `Filled::after` says what each read comes to.
-fn fill_from(host: &mut Host, input: i32, from: From, buffer: &mut [u8]) -> Filled
+// Reads until the buffer is full, the input ends or a read fails: `Filled::after` says what each read comes to. A read is told how many bytes
+// were filled before it, and puts its own into what is left.
+fn fill_by<F: FnMut(usize, &mut [u8]) -> isize>(mut read: F, buffer: &mut [u8]) -> Filled
+    requires { F.IsAlwaysCallable read }
     ensures { result.have ≤ length buffer.new }
 {
     let mut have: usize = 0;
     while have < buffer.len() {
-        let filled = fill_on(host, input, from, have, buffer);
+        let got = read(have, &mut buffer[have..]);
+        let filled = filled_by(got, have, buffer);
         if filled.done {
             return filled;
         }
@@ -152,31 +132,26 @@ fn fill_from(host: &mut Host, input: i32, from: From, buffer: &mut [u8]) -> Fill
 pub fn fill(host: &mut Host, input: i32, buffer: &mut [u8]) -> Filled
     ensures { result.have ≤ length buffer.new }
 {
-    let from = From {
-        is_offset: false,
-        offset: 0,
-    };
-    fill_from(host, input, from, buffer)
+    fill_by(|_, rest| host.read(input, rest), buffer)
 }
 
 // Fills a buffer from an offset of a file on, as far as the file goes.
 pub fn fill_at(host: &mut Host, input: i32, offset: u64, buffer: &mut [u8]) -> Filled
     ensures { result.have ≤ length buffer.new }
 {
-    let from = From {
-        is_offset: true,
-        offset,
-    };
-    fill_from(host, input, from, buffer)
+    fill_by(
+        |have, rest| host.read_at(input, rest, position(offset, have)),
+        buffer,
+    )
 }
 
 // What a header comes to, as far as it was filled.
+#[tactic(auto, unfolding(crate::specs::Status::begun_read))]
 fn begun(header: &[u8], filled: Filled) -> Read
     requires { filled.have ≤ length header.now }
     ensures { result ≡ begun_read header.now filled }
 {
-    let have = filled.have;
-    let run = Run::begin(&header[0..have]);
+    let run = Run::begin(&header[..filled.have]);
     if filled.failed {
         return Read::unread(run);
     }
@@ -192,10 +167,7 @@ pub fn begin(host: &mut Host, input: i32) -> Read {
 
 // Writes some text and a number. True where all of it was written.
 pub fn say(host: &mut Host, output: i32, text: &[u8], number: u64) -> bool {
-    if host.write_all(output, text) {
-        return host.print_decimal(output, number);
-    }
-    false
+    host.write_all(output, text) && host.print_decimal(output, number)
 }
 
 // Writes what ends one of the five numbers, and the next with its name.
@@ -203,25 +175,23 @@ fn say_next(host: &mut Host, output: i32, between: &[u8], text: &[u8], number: u
     host.write_all(output, between) && say(host, output, text, number)
 }
 
-// The first four of the confirming program's five lines, with something else in place of the ends of lines.
-fn print_counts(host: &mut Host, output: i32, outcome: Outcome, between: &[u8]) -> bool {
-    let mut is_written = say(host, output, b"SYSTEM ", outcome.system as u64);
-    is_written = is_written & say_next(host, output, between, b"START ", outcome.start as u64);
-    is_written = is_written & say_next(host, output, between, b"LINES ", outcome.lines as u64);
-    is_written & say_next(host, output, between, b"REPAIRS ", outcome.repairs as u64)
-}
-
-// And the fifth.
-fn print_result(host: &mut Host, output: i32, outcome: Outcome, between: &[u8]) -> bool {
-    let mut is_written = say_next(host, output, between, b"RESULT ", outcome.number as u64);
-    is_written = is_written & say(host, output, b" ", outcome.line as u64);
-    is_written = is_written & say(host, output, b" ", outcome.place as u64);
-    is_written & host.write_all(output, between)
-}
-
+// The confirming program's five lines, with something else in place of the ends of lines. Here and below what follows is written whether or not
+// what stands before it could be.
 fn print_numbers(host: &mut Host, output: i32, outcome: Outcome, between: &[u8]) -> bool {
-    let is_written = print_counts(host, output, outcome, between);
-    is_written & print_result(host, output, outcome, between)
+    say(host, output, b"SYSTEM ", u64::from(outcome.system))
+        & say_next(host, output, between, b"START ", u64::from(outcome.start))
+        & say_next(host, output, between, b"LINES ", u64::from(outcome.lines))
+        & say_next(
+            host,
+            output,
+            between,
+            b"REPAIRS ",
+            u64::from(outcome.repairs),
+        )
+        & say_next(host, output, between, b"RESULT ", u64::from(outcome.number))
+        & say(host, output, b" ", u64::from(outcome.line))
+        & say(host, output, b" ", outcome.place as u64)
+        & host.write_all(output, between)
 }
 
 // Writes the confirming program's five lines. True where all of them were written.
@@ -231,43 +201,34 @@ pub fn print_outcome(host: &mut Host, output: i32, outcome: Outcome) -> bool {
 
 // Writes the same on one line, and the recording's name.
 pub fn print_row(host: &mut Host, output: i32, outcome: Outcome, name: &[u8]) -> bool {
-    let is_written = print_numbers(host, output, outcome, b" ");
-    is_written & say_name(host, output, name) & host.write_all(output, b"\n")
+    print_numbers(host, output, outcome, b" ")
+        & say_name(host, output, name)
+        & host.write_all(output, b"\n")
 }
 
 // Writes the line of a recording that could not be read.
 pub fn print_unread(host: &mut Host, output: i32, name: &[u8]) -> bool {
-    let is_written = host.write_all(output, b"UNREAD ");
-    is_written & say_name(host, output, name) & host.write_all(output, b"\n")
-}
-
-// The last digit of a number.
-fn digit(number: u64) -> u8 {
-    b'0' + (number % 10) as u8
+    host.write_all(output, b"UNREAD ")
+        & say_name(host, output, name)
+        & host.write_all(output, b"\n")
 }
 
 // Writes ten-thousandths as a number with four digits behind the point.
 fn say_ten_thousandths(host: &mut Host, output: i32, text: &[u8], number: u64) -> bool {
-    let is_written = say(host, output, text, number / 10_000);
-    let digits = [
-        b'.',
-        digit(number / 1_000),
-        digit(number / 100),
-        digit(number / 10),
-        digit(number),
-    ];
-    is_written & host.write_all(output, &digits)
+    let mut digits = ArrayVec::<u8, 5>::new();
+    let _ = write!(digits, ".{:04}", number % 10_000);
+    say(host, output, text, number / 10_000) & host.write_all(output, digits.as_slice())
 }
 
 // Writes the sums over several recordings, on one line.
 pub fn print_totals(host: &mut Host, output: i32, totals: Totals) -> bool {
-    let mut is_written = say(host, output, b"FILES ", totals.files);
-    is_written = is_written & say(host, output, b" LINES ", totals.lines());
-    is_written = is_written & say_ten_thousandths(host, output, b" HOURS ", totals.hours());
-    is_written = is_written & say(host, output, b" REPAIRS ", totals.repairs);
-    is_written = is_written & say(host, output, b" REFUSED ", totals.refused);
-    is_written = is_written & say(host, output, b" UNREAD ", totals.unread);
-    is_written & host.write_all(output, b"\n")
+    say(host, output, b"FILES ", totals.files)
+        & say(host, output, b" LINES ", totals.lines())
+        & say_ten_thousandths(host, output, b" HOURS ", totals.hours())
+        & say(host, output, b" REPAIRS ", totals.repairs)
+        & say(host, output, b" REFUSED ", totals.refused)
+        & say(host, output, b" UNREAD ", totals.unread)
+        & host.write_all(output, b"\n")
 }
 
 // Whether progress is shown: on a terminal only.
@@ -285,10 +246,10 @@ fn pictures(walk: Walk) -> u32 {
 
 // How far a walk is, on one line of the terminal. The repairs of this field may grow shorter, so what stood behind them is cleared.
 pub fn show(host: &mut Host, walk: Walk) {
-    say(host, ERRORS, b"\rlines ", walk.lines as u64);
-    say(host, ERRORS, b" pictures ", pictures(walk) as u64);
-    say(host, ERRORS, b" repairs ", walk.repairs as u64);
-    say(host, ERRORS, b" in this field ", walk.tally as u64);
+    say(host, ERRORS, b"\rlines ", u64::from(walk.lines));
+    say(host, ERRORS, b" pictures ", u64::from(pictures(walk)));
+    say(host, ERRORS, b" repairs ", u64::from(walk.repairs));
+    say(host, ERRORS, b" in this field ", u64::from(walk.tally));
     host.write_all(ERRORS, b"\x1b[K");
 }
 
@@ -332,11 +293,8 @@ pub fn say_of(host: &mut Host, verb: &[u8], name: &[u8]) {
 
 // Says that a recording, or standard input, could not be read, and why.
 pub fn say_unread(host: &mut Host, verb: &[u8], name: &[u8]) {
-    say_of(host, verb, name);
-    if name.len() == 0 {
-        host.write_all(ERRORS, b"the input");
-    }
-    host.fail(b" could not be read");
+    let what = if name.is_empty() { b"the input" } else { name };
+    say_unopened(host, verb, what);
 }
 
 // Says that a file ended before the end that it had.

@@ -1,72 +1,40 @@
 // Names of any bytes, on one line.
-ghost use Rattle.std.specs.Prelude.{◌≤◌, length};
+ghost use Rattle.std.specs.Prelude.{◌≡◌, ◌-◌, ◌++◌, take};
+ghost use Rattle.arrayvec.specs.ArrayVec.{array_vec_len};
 
+use arrayvec::ArrayVec;
 use host::Host;
+use std::io::Write;
 
-// The bytes that one byte of a name takes at most.
-const WIDEST: usize = 4;
-
-// The bytes that a name has at most.
-const LONGEST: usize = 4096;
+// Room for a name: 4096 bytes at most, of which each takes four at most.
+const ROOM: usize = 4 * 4096;
 
 // A byte that is written as it is: no control byte, which might end the line, and no backslash, which begins another's form.
 fn is_plain(byte: u8) -> bool {
     32 <= byte && byte != 127 && byte != b'\\'
 }
 
-fn hexadecimal(number: u8) -> u8 {
-    let digit = number % 16;
-    if digit < 10 {
-        return b'0' + digit;
-    }
-    b'a' + (digit - 10)
-}
-
-// Puts bytes into a text from an offset on, as far as there is room, and answers the offset behind them.
-pub fn put(text: &mut [u8], at: usize, bytes: &[u8]) -> usize
-    requires { at ≤ length text.old }
-    ensures { result ≤ length text.new }
+// Puts bytes into a text, as far as there is room.
+pub fn put<const N: usize>(text: &mut ArrayVec<u8, N>, bytes: &[u8])
+    ensures { text.new.items ≡ text.old.items ++ take (N - array_vec_len text.old) bytes.now }
 {
-    let mut next = at;
-    for i in 0..bytes.len() {
-        if next == text.len() {
-            return next;
-        }
-        text[next] = bytes[i];
-        next += 1;
-    }
-    next
+    let _ = text.write(bytes);
 }
 
 // Puts a byte of a name into the text, as itself or as \xHH.
-fn put_shown(text: &mut [u8], at: usize, byte: u8) -> usize
-    requires { at ≤ length text.old }
-    ensures { result ≤ length text.new }
-{
+fn put_shown<const N: usize>(text: &mut ArrayVec<u8, N>, byte: u8) {
     if is_plain(byte) {
-        return put(text, at, &[byte]);
+        put(text, &[byte]);
+    } else {
+        let _ = write!(text, "\\x{byte:02x}");
     }
-    put(
-        text,
-        at,
-        &[b'\\', b'x', hexadecimal(byte / 16), hexadecimal(byte)],
-    )
-}
-
-// Puts a name into the text, as far as there is room, and answers how many bytes it took.
-fn put_name(name: &[u8], text: &mut [u8]) -> usize
-    ensures { result ≤ length text.new }
-{
-    let mut at: usize = 0;
-    for i in 0..name.len() {
-        at = put_shown(text, at, name[i]);
-    }
-    at
 }
 
 // Writes a name. True where all of it was written.
 pub fn say_name(host: &mut Host, output: i32, name: &[u8]) -> bool {
-    let mut text = [0u8; WIDEST * LONGEST];
-    let length = put_name(name, &mut text);
-    host.write_all(output, &text[0..length])
+    let mut text = ArrayVec::<u8, ROOM>::new();
+    for byte in name {
+        put_shown(&mut text, *byte);
+    }
+    host.write_all(output, text.as_slice())
 }

@@ -1,45 +1,54 @@
--- Where a loop over the entries of two lists of bytes stands: what is left of both tells the same as the whole. Assumes nothing.
-use Rattle.std.proofs.Common.{◌≡◌, ℕ, ◌+◌, ◌-◌, ◌≤◌, cond, eqb, List, length, take, drop, sym, refl, ◌∙◌, ap₂, arith, length-drop, drop-drop, eq-eqb, eqb-true}
-use Rattle.refusal.proofs.Cases.{by_test}
+-- Where entries of two lists of bytes are set beside one another: what is left of both tells the same as the whole. Assumes nothing.
+use Rattle.std.proofs.Common.{◌≡◌, ℕ, ◌<◌, Bool, true, false, not, cond, ltb, min, List, ◌∷◌, ◌++◌, length, sym, refl, ap, ◌∙◌, ap₂, arith, length-append, take_at, drop_at, ltb-false, ltb-true}
+use Rattle.refusal.proofs.Cases.{by_test, not_false}
 use Rattle.index.specs.declared.entry.Entry.{Entry}
 use Rattle.index.specs.Entries.{entry_length, entry_of, entries_of}
 use Rattle.finished.specs.declared.meeting.Meeting.{Meeting}
-use Rattle.finished.specs.Check.{differs_at, lower, same_entry, differing}
-use Rattle.finished.proofs.Entries.{differ_next}
+use Rattle.finished.specs.Check.{no_difference, differs_at, lower, same_entry, differing}
+use Rattle.finished.proofs.Entries.{entries_next, entries_short}
 
-pub record Beside (ours theirs : List ℕ) (at : ℕ) : Type 0 where
-  pub our : at ≤ length ours
-  pub their : at ≤ length theirs
-  pub same : differing (entries_of ours) (entries_of theirs) ≡ differing (entries_of (drop at ours)) (entries_of (drop at theirs))
+lower_is : (a b : ℕ) → min a b ≡ lower a b
+lower_is a b =
+    by_test (ltb b a)
+    (λ t. let l = ltb-true b a t in simp t (omega arith))
+    (λ t. let l = ltb-false b a t in simp t (omega arith))
 
-pub beside_start : (ours theirs : List ℕ) → Beside ours theirs 0
-beside_start ours theirs = record { our = omega arith; their = omega arith; same = refl }
+not_true : (t : Bool) → not t ≡ true → t ≡ false
+not_true true e = sym e
+not_true false e = refl
 
--- an entry of each
-module _ {ours theirs : List ℕ} {at : ℕ} (h : Beside ours theirs at) (l : entry_length ≤ length ours - at) (m : entry_length ≤ length theirs - at)
-    {e f : Entry} (is : e ≡ entry_of (take entry_length (drop at ours))) (are : f ≡ entry_of (take entry_length (drop at theirs))) where
-  abbrev rest : Meeting
-  rest = differing (entries_of (drop entry_length (drop at ours))) (entries_of (drop entry_length (drop at theirs)))
+-- an entry comes off the front
+entries_first : (bytes part rest : List ℕ) → bytes ≡ part ++ rest → length part ≡ entry_length → entries_of bytes ≡ entry_of part ∷ entries_of rest
+entries_first bytes part rest is long =
+    rw is
+    (entries_next (part ++ rest) (omega (arith, length-append part rest))
+    ∙ rw (take_at part rest entry_length long, drop_at part rest entry_length long) refl)
 
-  told : differing (entries_of ours) (entries_of theirs) ≡ cond (same_entry e f) rest (differs_at (lower e.ordinal f.ordinal))
-  told =
-      h.same ∙ differ_next (drop at ours) (drop at theirs) (omega (arith, length-drop at ours)) (omega (arith, length-drop at theirs))
-      ∙ sym (ap₂ (λ (x y : Entry). cond (same_entry x y) rest (differs_at (lower x.ordinal y.ordinal))) is are)
+module _ {all : Meeting} (ours theirs : List ℕ) (same : all ≡ differing (entries_of ours) (entries_of theirs)) where
+  pub beside_none : length ours < entry_length → length theirs < entry_length → no_difference ≡ all
+  unfolding differing
+  beside_none l m = sym (same ∙ ap₂ differing (entries_short ours l) (entries_short theirs m))
 
-  pub beside_differs : (e.ordinal ≡ f.ordinal → e.repairs ≡ f.repairs → ⊥)
-      → differing (entries_of ours) (entries_of theirs) ≡ differs_at (lower e.ordinal f.ordinal)
-  beside_differs n =
-      told
-      ∙ by_test (eqb e.ordinal f.ordinal)
-      (λ t. by_test (eqb e.repairs f.repairs) (λ u. absurd (n (eqb-true _ _ t) (eqb-true _ _ u))) (λ u. simp (t, u)))
-      (λ t. simp t)
+  pub beside_ours : (part rest : List ℕ) → ours ≡ part ++ rest → length part ≡ entry_length → length theirs < entry_length
+      → differs_at (entry_of part).ordinal ≡ all
+  unfolding differing
+  beside_ours part rest is long m = sym (same ∙ ap₂ differing (entries_first ours part rest is long) (entries_short theirs m))
 
-  pub beside_next : e.ordinal ≡ f.ordinal → e.repairs ≡ f.repairs → Beside ours theirs (at + entry_length)
-  beside_next o r =
-      record {
-        our = omega (arith, h.our);
-        their = omega (arith, h.their);
-        same =
-            told ∙ simp (eq-eqb _ _ o, eq-eqb _ _ r)
-            (ap₂ (λ (x y : List ℕ). differing (entries_of x) (entries_of y)) (drop-drop entry_length at ours) (drop-drop entry_length at theirs));
-      }
+  pub beside_theirs : (part rest : List ℕ) → length ours < entry_length → theirs ≡ part ++ rest → length part ≡ entry_length
+      → differs_at (entry_of part).ordinal ≡ all
+  unfolding differing
+  beside_theirs part rest l is long = sym (same ∙ ap₂ differing (entries_short ours l) (entries_first theirs part rest is long))
+
+  -- an entry of each, and whether they are told apart
+  module _ (our more their rest : List ℕ) (is : ours ≡ our ++ more) (long : length our ≡ entry_length) (are : theirs ≡ their ++ rest)
+      (wide : length their ≡ entry_length) (e f : Entry) (first : e ≡ entry_of our) (second : f ≡ entry_of their) (apart : Bool)
+      (told : apart ≡ not (same_entry e f)) where
+    both : all ≡ cond (same_entry e f) (differing (entries_of more) (entries_of rest)) (differs_at (lower e.ordinal f.ordinal))
+    unfolding differing
+    both = rw (first, second) (same ∙ ap₂ differing (entries_first ours our more is long) (entries_first theirs their rest are wide))
+
+    pub beside_differs : apart ≡ true → differs_at (min e.ordinal f.ordinal) ≡ all
+    beside_differs t = ap differs_at (lower_is e.ordinal f.ordinal) ∙ sym (both ∙ simp (not_true _ (sym told ∙ t)))
+
+    pub beside_next : apart ≡ false → all ≡ differing (entries_of more) (entries_of rest)
+    beside_next t = both ∙ simp (not_false _ (sym told ∙ t))

@@ -1,28 +1,12 @@
 -- Laws of the entries that bytes hold, and of where two lists of entries differ. Assumes nothing.
-use Rattle.std.proofs.Common.{◌≡◌, ℕ, zero, suc, ◌+◌, ◌*◌, ◌<◌, ◌≤◌, cond, ltb, List, [], ◌∷◌, ◌++◌, length, get_or, take, drop, sym, refl, ap, ◌∙◌, ap₂, arith, length-drop, take-append-drop, drop_of_length-le, length-take-le, take_all, drop-cons, ltb-false, ltb-true, eq-eqb}
+use Rattle.std.proofs.Common.{◌≡◌, ℕ, zero, suc, ◌*◌, ◌<◌, ◌≤◌, cond, ltb, List, [], ◌∷◌, ◌++◌, length, take, drop, sym, refl, ap, ◌∙◌, ap₂, arith, length-drop, take-append-drop, drop_of_length-le, length-take-le, take_all, ltb-false, ltb-true, eq-eqb}
 use Rattle.refusal.proofs.Cases.{by_test}
 use Rattle.index.specs.declared.entry.Entry.{Entry}
 use Rattle.index.specs.Entries.{entry_length, entry_of, entries_of}
 use Rattle.index.proofs.Entries.{entries_append}
-use Rattle.finished.specs.Check.{no_difference, differs_at, lower, same_entry, differing, Entire}
+use Rattle.finished.specs.Check.{no_difference, same_entry, differing, Entire}
 
 -- ---- The entries of bytes.
--- six bytes from an offset on
-pub six_at : (bytes : List ℕ) (at : ℕ) → at + entry_length ≤ length bytes
-    → take entry_length (drop at bytes)
-    ≡ get_or bytes at 0 ∷ get_or bytes (at + 1) 0 ∷ get_or bytes (at + 2) 0 ∷ get_or bytes (at + 3) 0 ∷ get_or bytes (at + 4) 0 ∷ get_or bytes (at + 5) 0 ∷ []
-six_at bytes at l =
-    ap (take entry_length)
-    (next at (at + 1) (omega arith) (omega arith)
-    (next (at + 1) (at + 2) (omega arith) (omega arith)
-    (next (at + 2) (at + 3) (omega arith) (omega arith)
-    (next (at + 3) (at + 4) (omega arith) (omega arith)
-    (next (at + 4) (at + 5) (omega arith) (omega arith) (drop-cons bytes (at + 5) 0 (omega arith)))))))
-  where
-    next : (i j : ℕ) {rest : List ℕ} → suc i ≡ j → i < length bytes → drop j bytes ≡ rest → drop i bytes ≡ get_or bytes i 0 ∷ rest
-    next i j is m e =
-        drop-cons bytes i 0 m ∙ ap (λ (r : List ℕ). get_or bytes i 0 ∷ r) (ap (λ (k : ℕ). drop k bytes) is ∙ e)
-
 pub entries_short : (bytes : List ℕ) → length bytes < entry_length → entries_of bytes ≡ []
 unfolding entries_of
 entries_short [] l = refl
@@ -51,29 +35,6 @@ entries_count (suc n) bytes e =
     ∙ ap suc (entries_count n (drop entry_length bytes) (omega (arith, length-drop entry_length bytes)))
 
 -- ---- Where entries differ.
-module _ (ours theirs : List ℕ) where
-  pub differ_next : entry_length ≤ length ours → entry_length ≤ length theirs
-      → differing (entries_of ours) (entries_of theirs)
-      ≡ cond (same_entry (entry_of (take entry_length ours)) (entry_of (take entry_length theirs)))
-      (differing (entries_of (drop entry_length ours)) (entries_of (drop entry_length theirs)))
-      (differs_at (lower (entry_of (take entry_length ours)).ordinal (entry_of (take entry_length theirs)).ordinal))
-  unfolding differing
-  differ_next l m = ap₂ differing (entries_next ours l) (entries_next theirs m)
-
-  pub differ_ours : entry_length ≤ length ours → length theirs < entry_length
-      → differing (entries_of ours) (entries_of theirs) ≡ differs_at (entry_of (take entry_length ours)).ordinal
-  unfolding differing
-  differ_ours l m = ap₂ differing (entries_next ours l) (entries_short theirs m)
-
-  pub differ_theirs : length ours < entry_length → entry_length ≤ length theirs
-      → differing (entries_of ours) (entries_of theirs) ≡ differs_at (entry_of (take entry_length theirs)).ordinal
-  unfolding differing
-  differ_theirs l m = ap₂ differing (entries_short ours l) (entries_next theirs m)
-
-  pub differ_none : length ours < entry_length → length theirs < entry_length → differing (entries_of ours) (entries_of theirs) ≡ no_difference
-  unfolding differing
-  differ_none l m = ap₂ differing (entries_short ours l) (entries_short theirs m)
-
 -- entries behind others, where those are as many or theirs are at their end
 differ_append : (es fs more rest : List Entry) → length fs ≤ length es → (length fs < length es → rest ≡ [])
     → differing (es ++ more) (fs ++ rest) ≡ cond (differing es fs).differs (differing es fs) (differing more rest)

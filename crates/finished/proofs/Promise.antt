@@ -19,7 +19,7 @@ use Rattle.confirmation.specs.Run.{header_length, header_system, header_start, f
 use Rattle.confirmation.proofs.Bodies.{line_has_bytes, body_ended}
 use Rattle.index.specs.declared.entry.Entry.{Entry}
 use Rattle.index.specs.declared.trailer.Trailer.{Trailer}
-use Rattle.index.specs.declared.Asked.{Asked}
+use Rattle.index.specs.Parts.{Asked}
 use Rattle.index.specs.Entries as entries
 use Rattle.index.specs.Entries.{entry_length, index_of, index_bytes, entries_of, entries_well, repairs_from, Bytes}
 use Rattle.index.specs.Asking as question

@@ -6,7 +6,7 @@ use Rattle.timing.specs.declared.Report.{Report}
 use Rattle.system.specs.Walk.{fresh_walk, named_refusal}
 use Rattle.intake.specs.Arrival.{all_pieces, fed_by}
 use Rattle.confirmation.specs.Run.{header_length, header_system, header_start, fresh_run, begun_of, confirmed_of}
-use Rattle.index.specs.declared.Asked.{Asked}
+use Rattle.index.specs.Parts.{Asked}
 use Rattle.index.specs.Entries.{Bytes, entries_of, repairs_from}
 use Rattle.index.specs.Parts.{line_size, trailer_in, index_in, lines_in, lines_part, index_part, answer_of}
 use Rattle.index.specs.Asking as question

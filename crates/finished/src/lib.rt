@@ -10,7 +10,6 @@ ghost use Rattle.finished.specs.Finish.{line_adds, finished_next, fresh_finishin
 use confirmation::Run;
 use index::{ENTRY_LENGTH, Entry, Trailer};
 pub use meeting::{Meeting, differs_before, is_theirs};
-use std::num::wrapping_add_u32;
 
 // Lines on their way into a finished file, or under its check: the run over them, and how many of them were not clean.
 #[derive(Clone, Copy)]
@@ -49,17 +48,16 @@ impl Finishing {
         ensures put { result.put ≡ at + length (line_adds self.run.walk line.now) }
         ensures room { room.new ≡ take at room.old ++ room_after (line_adds self.run.walk line.now) (drop at room.old) }
     {
-        let run = self.run;
-        let walk = run.walk;
+        let walk = self.run.walk;
         let judgement = bytewise::judge(walk, line);
         let repairs = system::repairs(judgement.report);
-        let after = run.judged(judgement);
+        let judged = Finishing {
+            run: self.run.judged(judgement),
+            ..self
+        };
         if repairs == 0 {
             return Lined {
-                finishing: Finishing {
-                    run: after,
-                    entries: self.entries,
-                },
+                finishing: judged,
                 put: at,
             };
         }
@@ -68,11 +66,12 @@ impl Finishing {
             ordinal: walk.lines,
             repairs,
         }
-        .put(&mut room[at..end]);
+        .put(&mut room[at..end])
+        .unwrap();
         Lined {
             finishing: Finishing {
-                run: after,
-                entries: wrapping_add_u32(self.entries, 1),
+                entries: self.entries.wrapping_add(1),
+                ..judged
             },
             put: end,
         }
@@ -100,23 +99,21 @@ impl Finishing {
         ensures put { result.put ≡ length (made_of (length room.old / entry_length) self bytes.now).index }
         ensures room { room.new ≡ room_after (made_of (length room.old / entry_length) self bytes.now).index room.old }
     {
-        let run = self.run;
-        let walk = run.walk;
-        let size = walk.line_bytes();
+        let size = self.run.walk.line_bytes();
         let mut finishing = self;
         let mut at: usize = 0;
         let mut put: usize = 0;
         let mut turns = room.len() / ENTRY_LENGTH;
+        // The offset is counted by hand: how far it came is part of the answer. Confirming has a loop of its own, which needs no room.
         while turns > 0 && at < bytes.len() {
             let run = finishing.run;
-            let walk = run.walk;
             if run.number != 0 {
                 return finishing.made(at, put);
             }
-            if walk.refusal().number != 0 {
+            if run.walk.refusal().is_err() {
                 let ended = Finishing {
                     run: run.next(&bytes[at..]),
-                    entries: finishing.entries,
+                    ..finishing
                 };
                 return ended.made(at, put);
             }
@@ -134,24 +131,24 @@ impl Finishing {
     }
 
     // At the end of the input, with the bytes that were left.
+    #[tactic(auto, unfolding(crate::specs::Finish::finishing_closed))]
     pub fn close(self, bytes: &[u8]) -> Finishing
         ensures { result ≡ finishing_closed self bytes.now }
     {
-        let run = self.run;
         Finishing {
-            run: run.close(bytes),
-            entries: self.entries,
+            run: self.run.close(bytes),
+            ..self
         }
     }
 
     // The trailer behind the index of these lines.
+    #[tactic(auto, unfolding(crate::specs::Finish::trailer_of_lines))]
     pub fn trailer(self) -> Trailer
         ensures { result ≡ trailer_of_lines self }
     {
-        let run = self.run;
-        let walk = run.walk;
+        let walk = self.run.walk;
         Trailer {
-            offset: walk.lines as u64 * walk.line_bytes() as u64,
+            offset: u64::from(walk.lines) * walk.line_bytes() as u64,
             entries: self.entries,
             lines: walk.lines,
         }

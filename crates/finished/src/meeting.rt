@@ -6,35 +6,19 @@ ghost use Rattle.finished.specs.Check.{differs_at, lower, differing, met_of, is_
 use confirmation::Run;
 use index::{ENTRY_LENGTH, Entry};
 
-// Whether the two differ, and the first ordinal where they do.
+// Whether the two differ, and the first ordinal where they do. Two fields and no `Option`, since the promise `DiffersFirst` speaks of both.
 #[derive(Clone, Copy)]
 pub struct Meeting {
     pub differs: bool,
     pub ordinal: u32,
 }
 
-// The entry at an offset of the bytes.
-fn entry_at(bytes: &[u8], at: usize) -> Entry
-    requires { at + entry_length ≤ length bytes.now }
-    ensures { result ≡ entry_of (take entry_length (drop at bytes.now)) }
+// The entry of six bytes.
+fn entry(bytes: &[u8]) -> Entry
+    requires { length bytes.now ≡ entry_length }
+    ensures { result ≡ entry_of bytes.now }
 {
-    Entry::of(
-        bytes[at],
-        bytes[at + 1],
-        bytes[at + 2],
-        bytes[at + 3],
-        bytes[at + 4],
-        bytes[at + 5],
-    )
-}
-
-fn lower(a: u32, b: u32) -> u32
-    ensures { result ≡ Rattle.finished.specs.Check.lower a b }
-{
-    if b < a {
-        return b;
-    }
-    a
+    Entry::of([bytes[0], bytes[1], bytes[2], bytes[3], bytes[4], bytes[5]])
 }
 
 fn differs_at(ordinal: u32) -> Meeting
@@ -46,48 +30,26 @@ fn differs_at(ordinal: u32) -> Meeting
     }
 }
 
-// Whether two are the same bytes, as they mostly are: a pass without a way out, which runs on vectors.
-fn are_same(ours: &[u8], theirs: &[u8]) -> bool
-    ensures { result ≡ true → ours.now ≡ theirs.now }
-{
-    if ours.len() != theirs.len() {
-        return false;
-    }
-    let mut same = true;
-    for i in 0..ours.len() {
-        same = same & (ours[i] == theirs[i]);
-    }
-    same
-}
-
-// Where entries differ of which at least one list is at its end.
-fn differ_in_length(ours: &[u8], theirs: &[u8], at: usize) -> Meeting
-    requires { (at ≤ length ours.now) × (at ≤ length theirs.now) × ((at + entry_length ≤ length ours.now) → (at + entry_length ≤ length theirs.now) → ⊥) }
-    ensures { result ≡ differing (entries_of (drop at ours.now)) (entries_of (drop at theirs.now)) }
-{
-    if ENTRY_LENGTH <= ours.len() - at {
-        return differs_at(entry_at(ours, at).ordinal);
-    }
-    if ENTRY_LENGTH <= theirs.len() - at {
-        return differs_at(entry_at(theirs, at).ordinal);
-    }
-    Meeting::NONE
-}
-
 // Where entries differ first.
 fn differ(ours: &[u8], theirs: &[u8]) -> Meeting
     ensures { result ≡ differing (entries_of ours.now) (entries_of theirs.now) }
 {
-    let mut at: usize = 0;
-    while ENTRY_LENGTH <= ours.len() - at && ENTRY_LENGTH <= theirs.len() - at {
-        let our = entry_at(ours, at);
-        let their = entry_at(theirs, at);
-        if our.ordinal != their.ordinal || our.repairs != their.repairs {
-            return differs_at(lower(our.ordinal, their.ordinal));
+    let mut our_rest = ours.chunks_exact(ENTRY_LENGTH);
+    let mut their_rest = theirs.chunks_exact(ENTRY_LENGTH);
+    loop {
+        match (our_rest.next(), their_rest.next()) {
+            (None, None) => return Meeting::NONE,
+            (Some(our), None) => return differs_at(entry(our).ordinal),
+            (None, Some(their)) => return differs_at(entry(their).ordinal),
+            (Some(our), Some(their)) => {
+                let our = entry(our);
+                let their = entry(their);
+                if our != their {
+                    return differs_at(our.ordinal.min(their.ordinal));
+                }
+            }
         }
-        at += ENTRY_LENGTH;
     }
-    differ_in_length(ours, theirs, at)
 }
 
 impl Meeting {
@@ -99,13 +61,14 @@ impl Meeting {
 
     // With entries more of the lines, and those that the file's index has in their place. At the end of the lines there are no more of theirs,
     // and an entry that is left in the file's differs.
+    #[tactic(auto, unfolding(crate::specs::Check::met_of))]
     pub fn meet(self, ours: &[u8], theirs: &[u8]) -> Meeting
         ensures { result ≡ met_of self ours.now theirs.now }
     {
         if self.differs {
             return self;
         }
-        if are_same(ours, theirs) {
+        if ours == theirs {
             return Meeting::NONE;
         }
         differ(ours, theirs)
@@ -113,22 +76,17 @@ impl Meeting {
 }
 
 // What the full check says of a file that is not refused: all lines were accepted, and the index is theirs.
+#[tactic(auto, unfolding(crate::specs::Check::is_theirs))]
 pub fn is_theirs(run: Run, meeting: Meeting) -> bool
     ensures { result ≡ is_theirs run meeting }
 {
-    if run.number != 0 {
-        return false;
-    }
-    !meeting.differs
+    run.number == 0 && !meeting.differs
 }
 
 // What is told of a file that is not theirs: the index, where it differs at an ordinal before that of the refused line; or that line.
+#[tactic(auto, unfolding(crate::specs::Check::differs_before))]
 pub fn differs_before(run: Run, meeting: Meeting) -> bool
     ensures { result ≡ differs_before run meeting }
 {
-    let walk = run.walk;
-    if run.number == 0 {
-        return meeting.differs;
-    }
-    meeting.differs & (meeting.ordinal < walk.lines)
+    meeting.differs && (run.number == 0 || meeting.ordinal < run.walk.lines)
 }

@@ -1,5 +1,5 @@
 // The arguments that the process was started with, its own name first.
-ghost use Rattle.std.specs.Prelude.{◌≤◌, length};
+ghost use Rattle.std.specs.Prelude.{◌≤◌, IfSome, length};
 
 use crate::{Host, INVALID, TOO_LONG};
 use std::env::FillError;
@@ -8,40 +8,33 @@ use std::rt::Env;
 impl Host {
     // Whether there is an argument of this index.
     fn has_argument(&self, index: usize) -> bool {
-        match self.rt.arg(index, &mut []) {
-            Ok(_) => true,
-            Err(FillError::TooLong) => true,
-            Err(FillError::NotPresent) => false,
-        }
+        !matches!(self.rt.arg(index, &mut []), Err(FillError::NotPresent))
     }
 
     // How many arguments there are.
     pub fn argument_count(&self) -> usize {
-        for index in 0..usize::MAX {
-            if !self.has_argument(index) {
-                return index;
-            }
-        }
-        usize::MAX
+        (0..usize::MAX)
+            .find(|index| !self.has_argument(*index))
+            .unwrap_or(usize::MAX)
     }
 
-    // Puts an argument at the start of a text and answers its length, or 0 where it is missing or longer than the text, which then holds its
-    // first bytes. Afterwards `error` is 0 only where the whole argument is there.
-    pub fn argument(&mut self, index: usize, text: &mut [u8]) -> usize
-        ensures { result ≤ length text.new }
+    // Puts an argument at the start of a room and lends it from there, or none where it is missing or longer than the room, which then holds its
+    // first bytes.
+    pub fn argument<'a>(&mut self, index: usize, room: &'a mut [u8]) -> Option<&'a [u8]>
+        ensures { IfSome result (λ text. length text.now ≤ length room.old) }
     {
-        match self.rt.arg(index, text) {
+        match self.rt.arg(index, room) {
             Ok(length) => {
                 self.error = 0;
-                length
+                Some(&room[..length])
             }
             Err(FillError::TooLong) => {
                 self.error = TOO_LONG;
-                0
+                None
             }
             Err(FillError::NotPresent) => {
                 self.error = INVALID;
-                0
+                None
             }
         }
     }

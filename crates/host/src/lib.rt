@@ -9,7 +9,7 @@ mod start;
 mod telling;
 
 use std::fs::File;
-use std::io::Error;
+use std::io::{Error, ErrorKind, Result};
 
 // The numbers of the standard streams.
 pub const INPUT: i32 = 0;
@@ -18,13 +18,8 @@ pub const OUTPUT: i32 = 1;
 
 pub const ERRORS: i32 = 2;
 
-// What `Host::error` tells of a name that is not there, and of one that is there already.
-pub const MISSING: i32 = 2;
-
-pub const THERE: i32 = 17;
-
-// What else it tells, of calls that never came to the system: a signal came in between, a number that is not open, no sense, too many files
-// that are open, too long, a name that is no text, and one that is on no disk.
+// The system's numbers for what a call fails in that never came to it, which is told in its words for them: a signal came in between, a number
+// that is not open, no sense, too many files that are open, too long, a name that is no text, and one that is on no disk.
 const INTERRUPTED: i32 = 4;
 
 const NOT_OPEN: i32 = 9;
@@ -42,7 +37,7 @@ const NO_DISK: i32 = 95;
 // How many files may be open at once: no verb opens as many.
 const SLOTS: usize = 8;
 
-// The files that are open, and why the last call failed that did.
+// The files that are open, and why the last call failed that did, by its number. A File has no default, so they lie in options and no ArrayVec.
 #[derive(Drop)]
 pub struct Host {
     rt: HostRuntime,
@@ -60,19 +55,24 @@ impl Host {
     pub fn new(rt: HostRuntime) -> Host {
         Host {
             rt,
-            files: [None, None, None, None, None, None, None, None],
+            files: Default::default(),
             error: 0,
         }
     }
 
-    // Why the last call failed that did: the system's number for it.
-    pub fn error(&self) -> i32 {
-        self.error
+    // Why the last call failed that did.
+    pub fn error(&self) -> ErrorKind {
+        Error::from_raw_os_error(self.error).kind()
     }
 
-    // Keeps why a call failed. False, as for a call that failed.
-    fn failed(&mut self, number: i32) -> bool {
-        self.error = number;
-        false
+    // What a call gave, or none where it failed, and why it did is kept.
+    fn given<T>(&mut self, called: Result<T>) -> Option<T> {
+        match called {
+            Ok(value) => Some(value),
+            Err(error) => {
+                self.error = number_of(error);
+                None
+            }
+        }
     }
 }

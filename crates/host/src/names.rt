@@ -1,11 +1,10 @@
 // Files by their names. A name is any bytes, and the library takes text, so one that is no text is told by characters, which the process around
 // the command turns back.
-ghost use Rattle.std.specs.Prelude.{◌≤◌, length};
-
-use crate::{Host, NO_TEXT, THERE, TOO_LONG, number_of};
+use crate::{Host, NO_TEXT, TOO_LONG};
+use arrayvec::ArrayVec;
 use std::fs;
 use std::fs::{File, OpenOptions};
-use std::io::{Error, Result};
+use std::io::{Error, ErrorKind, Result, Write};
 use std::os::unix::fs::OpenOptionsExt;
 use std::random::RandomSource;
 
@@ -14,145 +13,108 @@ const LETTERS: usize = 6;
 
 const TRIES: usize = 10_000;
 
+// The bytes that one byte of a name takes at most when it is told.
+const WIDEST: usize = 4;
+
 // Room for a name that is told by characters: the system opens none that is longer.
-const ROOM: usize = 4100;
+const ROOM: usize = 4096 + WIDEST;
 
-// The first byte of the characters U+10FF80 to U+10FFFF, of which each stands for one byte from 128 on.
-const FIRST: u8 = 0xf4;
+// The first of the characters that tell no text: of U+10FF80 to U+10FFFF each stands for one byte from 128 on.
+const FIRST: char = '\u{100000}';
 
-// Whether the characters that stand for bytes may be in a text.
-fn has_first(name: &[u8]) -> bool {
-    for byte in name {
-        if *byte == FIRST {
-            return true;
+// Puts what tells one byte of a name behind what was told, where the room is not used up.
+fn put<const N: usize>(told: &mut ArrayVec<u8, N>, bytes: &[u8]) -> Result<()> {
+    if told.remaining_capacity() < WIDEST {
+        return Err(Error::from_raw_os_error(TOO_LONG));
+    }
+    told.write_all(bytes)
+}
+
+// The same by the character that stands for the byte.
+fn put_by_character<const N: usize>(told: &mut ArrayVec<u8, N>, byte: u8) -> Result<()> {
+    put(told, &[0xf4, 0x8f, 0xbc | byte >> 6, 0x80 | byte & 0x3f])
+}
+
+// Puts a name's character: as it is, or each of its bytes by a character, where it may stand for a byte.
+fn put_character<const N: usize>(told: &mut ArrayVec<u8, N>, character: char) -> Result<()> {
+    let mut room = [0u8; WIDEST];
+    for byte in character.encode_utf8(&mut room).as_bytes() {
+        if character < FIRST {
+            put(told, &[*byte])?;
+        } else {
+            put_by_character(told, *byte)?;
         }
     }
-    false
-}
-
-// How many bytes a text begins with before the first byte of such a character.
-fn before_first(text: &[u8]) -> usize
-    ensures { result ≤ length text.now }
-{
-    for i in 0..text.len() {
-        if text[i] == FIRST {
-            return i;
-        }
-    }
-    text.len()
-}
-
-// How many bytes a name begins with that stay as they are: text, and none of the characters that stand for bytes.
-fn plain_length(name: &[u8]) -> usize
-    ensures { result ≤ length name.now }
-{
-    match std::str::from_utf8(name) {
-        Ok(_) => before_first(name),
-        Err(error) => before_first(&name[..error.valid_up_to()]),
-    }
-}
-
-// Puts a byte of a name into the room, as it is or by the four bytes of the character that stands for it, and answers the offset behind it. Where
-// the room is too small for that, nothing is put.
-fn put_told(room: &mut [u8], at: usize, byte: u8, is_plain: bool) -> usize
-    requires { at ≤ length room.old }
-    ensures { result ≤ length room.new }
-{
-    if room.len() - at < 4 {
-        return at;
-    }
-    if is_plain {
-        room[at] = byte;
-        return at + 1;
-    }
-    room[at] = FIRST;
-    room[at + 1] = 0x8f;
-    room[at + 2] = 0xbc | byte >> 6;
-    room[at + 3] = 0x80 | byte & 0x3f;
-    at + 4
+    Ok(())
 }
 
 // The name told by characters, as text.
-fn told<'a>(name: &[u8], room: &'a mut [u8]) -> Result<&'a str> {
-    let mut at: usize = 0;
-    let mut plain: usize = 0;
-    for i in 0..name.len() {
-        if plain <= i {
-            plain = i + plain_length(&name[i..]);
+fn told<'a, const N: usize>(name: &[u8], room: &'a mut ArrayVec<u8, N>) -> Result<&'a str> {
+    for chunk in name.utf8_chunks() {
+        for character in chunk.valid().chars() {
+            put_character(room, character)?;
         }
-        let next = put_told(room, at, name[i], i < plain);
-        if next == at {
-            return Err(Error::from_raw_os_error(TOO_LONG));
+        for byte in chunk.invalid() {
+            put_by_character(room, *byte)?;
         }
-        at = next;
     }
-    match std::str::from_utf8(&room[..at]) {
-        Ok(text) => Ok(text),
-        Err(_) => Err(Error::from_raw_os_error(NO_TEXT)),
-    }
+    std::str::from_utf8(room.as_slice()).map_err(|_| Error::from_raw_os_error(NO_TEXT))
 }
 
 // A name as text: as it is, or told by characters in the room.
-fn text_of<'a>(name: &'a [u8], room: &'a mut [u8]) -> Result<&'a str> {
-    if has_first(name) {
-        return told(name, room);
-    }
+fn text_of<'a, const N: usize>(name: &'a [u8], room: &'a mut ArrayVec<u8, N>) -> Result<&'a str> {
     match std::str::from_utf8(name) {
-        Ok(text) => Ok(text),
-        Err(_) => told(name, room),
+        Ok(text) if text.chars().all(|character| character < FIRST) => Ok(text),
+        _ => told(name, room),
     }
 }
 
 // The letter that stands for a byte.
 fn letter(byte: u8) -> u8 {
-    let number = byte % 62;
-    if number < 10 {
-        return b'0' + number;
+    match byte % 62 {
+        number @ 0..=9 => b'0' + number,
+        number @ 10..=35 => b'A' + (number - 10),
+        number => b'a' + (number - 36),
     }
-    if number < 36 {
-        return b'A' + (number - 10);
-    }
-    b'a' + (number - 36)
 }
 
 // Writes letters for these bytes over the end of a name.
 fn put_letters(name: &mut [u8], bytes: &[u8; LETTERS]) {
-    let size = name.len();
-    if size < LETTERS {
-        return;
-    }
-    for i in 0..LETTERS {
-        name[size - LETTERS + i] = letter(bytes[i]);
+    if let Some(end) = name.last_chunk_mut::<LETTERS>() {
+        *end = bytes.map(letter);
     }
 }
 
 impl Host {
-    fn open_by(&self, how: &OpenOptions, name: &[u8]) -> Result<File> {
-        let mut room = [0u8; ROOM];
-        how.open(&self.rt, text_of(name, &mut room)?)
+    // Makes a call by a name as text.
+    fn by_text<T, F: FnOnce(&str) -> Result<T>>(&self, name: &[u8], call: F) -> Result<T>
+        requires { F.IsAlwaysCallable call }
+    {
+        let mut room = ArrayVec::<u8, ROOM>::new();
+        call(text_of(name, &mut room)?)
     }
 
-    fn open(&mut self, how: &OpenOptions, name: &[u8]) -> i32 {
-        let opened = self.open_by(how, name);
+    fn open(&mut self, how: &OpenOptions, name: &[u8]) -> Option<i32> {
+        let opened = self.by_text(name, |text| how.open(&self.rt, text));
         self.opened(opened)
     }
 
-    // Opens a file for reading, and answers its number, or -1 where that failed.
-    pub fn open_read(&mut self, name: &[u8]) -> i32 {
+    // Opens a file for reading, and answers its number, or none where that failed.
+    pub fn open_read(&mut self, name: &[u8]) -> Option<i32> {
         let mut how = OpenOptions::new();
         how.read(true);
         self.open(&how, name)
     }
 
     // Opens a file that is there for writing behind its end.
-    pub fn open_append(&mut self, name: &[u8]) -> i32 {
+    pub fn open_append(&mut self, name: &[u8]) -> Option<i32> {
         let mut how = OpenOptions::new();
         how.append(true);
         self.open(&how, name)
     }
 
     // Makes a file that was not there, and opens it for writing.
-    pub fn create(&mut self, name: &[u8]) -> i32 {
+    pub fn create(&mut self, name: &[u8]) -> Option<i32> {
         let mut how = OpenOptions::new();
         how.write(true).create_new(true);
         self.open(&how, name)
@@ -160,40 +122,32 @@ impl Host {
 
     // Makes a file that was not there and that no one else may open, and opens it for reading and writing. The last six bytes of the name become
     // letters that no file there has.
-    pub fn create_temporary(&mut self, name: &mut [u8]) -> i32 {
+    pub fn create_temporary(&mut self, name: &mut [u8]) -> Option<i32> {
         let mut how = OpenOptions::new();
         how.read(true).write(true).create_new(true).mode(0o600);
         for _ in 0..TRIES {
             let mut bytes = [0u8; LETTERS];
-            if let Err(error) = self.rt.fill_bytes(&mut bytes) {
-                self.failed(number_of(error));
-                return -1;
-            }
+            let filled = self.rt.fill_bytes(&mut bytes);
+            self.given(filled)?;
             put_letters(name, &bytes);
             let file = self.open(&how, name);
-            if 0 <= file || self.error != THERE {
+            if file.is_some() || self.error() != ErrorKind::AlreadyExists {
                 return file;
             }
         }
-        -1
+        None
     }
 
-    // Whether a call on names went well.
-    fn went(&mut self, done: Result<()>) -> bool {
-        match done {
-            Ok(()) => true,
-            Err(error) => self.failed(number_of(error)),
-        }
+    // Removes a file's name.
+    pub fn remove(&mut self, name: &[u8]) -> bool {
+        let done = self.by_text(name, |text| fs::remove_file(&self.rt, text));
+        self.given(done).is_some()
     }
 
-    fn try_remove(&self, name: &[u8]) -> Result<()> {
-        let mut room = [0u8; ROOM];
-        fs::remove_file(&self.rt, text_of(name, &mut room)?)
-    }
-
+    // With two rooms by hand: no proof closes where one call by a name stands within another.
     fn try_rename(&self, from: &[u8], to: &[u8]) -> Result<()> {
-        let mut first = [0u8; ROOM];
-        let mut second = [0u8; ROOM];
+        let mut first = ArrayVec::<u8, ROOM>::new();
+        let mut second = ArrayVec::<u8, ROOM>::new();
         fs::rename(
             &self.rt,
             text_of(from, &mut first)?,
@@ -201,34 +155,22 @@ impl Host {
         )
     }
 
-    fn try_make_folder(&self, name: &[u8]) -> Result<()> {
-        let mut room = [0u8; ROOM];
-        fs::create_dir(&self.rt, text_of(name, &mut room)?)
-    }
-
-    // Removes a file's name.
-    pub fn remove(&mut self, name: &[u8]) -> bool {
-        let done = self.try_remove(name);
-        self.went(done)
-    }
-
     // Gives a file another name, in place of what has it.
     pub fn rename(&mut self, from: &[u8], to: &[u8]) -> bool {
         let done = self.try_rename(from, to);
-        self.went(done)
+        self.given(done).is_some()
     }
 
     // Makes a folder that was not there.
     pub fn make_folder(&mut self, name: &[u8]) -> bool {
-        let done = self.try_make_folder(name);
-        self.went(done)
+        let done = self.by_text(name, |text| fs::create_dir(&self.rt, text));
+        self.given(done).is_some()
     }
 }
 
 #[cfg(test)]
 mod tests {
     use super::*;
-    use crate::MISSING;
 
     #[test]
     fn a_names_last_six_bytes_become_letters(rt: HostRuntime) {
@@ -241,10 +183,11 @@ mod tests {
     fn a_file_that_is_made_is_read_and_removed(rt: HostRuntime) {
         let mut host = Host::new(rt);
         let mut name = *b"host.XXXXXX";
-        let file = host.create_temporary(&mut name);
-        assert!(rt; 0 <= file);
+        let made = host.create_temporary(&mut name);
+        assert!(rt; made.is_some());
+        let file = made.unwrap_or(-1);
         assert!(rt; host.write_all(file, b"0123456789"));
-        assert!(rt; host.seek_end(file) == 10);
+        assert!(rt; host.seek_end(file) == Some(10));
         let mut buffer = [0u8; 4];
         assert!(rt; host.read_at(file, &mut buffer, 7) == 3);
         assert!(rt; buffer == *b"789\0");
@@ -252,16 +195,16 @@ mod tests {
         assert!(rt; host.read(file, &mut buffer) == 4);
         assert!(rt; buffer == *b"0123");
         assert!(rt; host.close(file));
-        assert!(rt; host.create(&name) == -1);
-        assert!(rt; host.error() == THERE);
+        assert!(rt; host.create(&name) == None);
+        assert!(rt; host.error() == ErrorKind::AlreadyExists);
         assert!(rt; host.remove(&name));
-        assert!(rt; host.open_read(&name) == -1);
-        assert!(rt; host.error() == MISSING);
+        assert!(rt; host.open_read(&name) == None);
+        assert!(rt; host.error() == ErrorKind::NotFound);
     }
 
     #[test]
     fn a_name_that_is_no_text_is_told_by_characters(rt: HostRuntime) {
-        let mut room = [0u8; 16];
+        let mut room = ArrayVec::<u8, 16>::new();
         assert!(rt;
             text_of(b"x\xff\x80", &mut room).is_ok_and(|text| text == "x\u{10ffff}\u{10ff80}")
         );
@@ -269,7 +212,7 @@ mod tests {
 
     #[test]
     fn a_name_that_is_text_stays(rt: HostRuntime) {
-        let mut room = [0u8; 0];
+        let mut room = ArrayVec::<u8, 0>::new();
         assert!(rt; text_of("x\u{e9}".as_bytes(), &mut room).is_ok_and(|text| text == "x\u{e9}"));
     }
 }

@@ -5,50 +5,37 @@ use std::io::Write;
 // What takes all that is written and keeps nothing.
 const NOTHING: &[u8] = b"/dev/null";
 
+// How many numbers are lower than that of standard error.
+const LOWER: u32 = 2;
+
 impl Host {
     // Whether nothing can be written to standard error: it is closed, or open for reading alone.
     fn has_no_errors(&self) -> bool {
-        let mut errors = self.rt.stderr();
-        match errors.write(&[]) {
-            Ok(_) => false,
-            Err(error) => error.raw_os_error() == Some(NOT_OPEN),
-        }
+        self.rt
+            .stderr()
+            .write(&[])
+            .is_err_and(|error| error.raw_os_error() == Some(NOT_OPEN))
     }
 
-    // Whether a file that was opened as nothing shows that standard error is open: it has its number, or a higher one, since that was taken.
-    fn shows_errors(&mut self, file: i32) -> bool {
-        if ERRORS < file {
-            self.close(file);
+    // Opens nothing, and opens it as standard error, by way of the lower numbers, where these are closed too: so many of them at most. True where
+    // standard error is open then: what was opened has its number, or a higher one, since that was taken.
+    fn open_errors(&mut self, lower: u32) -> bool {
+        match self.open_append(NOTHING) {
+            None => false,
+            Some(ERRORS) => true,
+            Some(file) => {
+                let is_open = ERRORS < file || 0 < lower && self.open_errors(lower - 1);
+                self.close(file);
+                is_open
+            }
         }
-        ERRORS <= file
-    }
-
-    // Opens nothing as standard error, by way of the lower numbers, where these are closed too. False where that failed.
-    fn open_errors(&mut self) -> bool {
-        let first = self.open_append(NOTHING);
-        if first < 0 || ERRORS <= first {
-            return self.shows_errors(first);
-        }
-        let is_open = self.open_errors_behind();
-        self.close(first);
-        is_open
-    }
-
-    fn open_errors_behind(&mut self) -> bool {
-        let second = self.open_append(NOTHING);
-        if second < 0 || ERRORS <= second {
-            return self.shows_errors(second);
-        }
-        let third = self.open_append(NOTHING);
-        self.close(second);
-        self.shows_errors(third)
     }
 
     // Standard error that is closed is opened as nothing: a recording that is made would take its number, and messages with it. False where
     // that failed.
     pub fn has_errors(&mut self) -> bool {
         if self.has_no_errors() {
-            return self.open_errors();
+            return self.open_errors(LOWER);
         }
         true
     }

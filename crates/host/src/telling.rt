@@ -1,39 +1,31 @@
 // Why a call failed, in the system's words.
-ghost use Rattle.std.specs.Prelude.{◌≤◌, length};
-
 use crate::{ERRORS, Host};
+use arrayvec::ArrayVec;
 use std::io::{Error, Write};
 
-// How many bytes of a text that ends in a number in brackets stand before these and the blank before them.
-fn bare(text: &[u8]) -> usize
-    ensures { result ≤ length text.now }
-{
+// A text that ends in a number in brackets without these and the blank before them.
+fn bare(text: &[u8]) -> &[u8] {
     match text.iter().rposition(|byte| *byte == b'(') {
-        Some(place) => place.saturating_sub(1),
-        None => text.len(),
+        Some(place) => &text[..place.saturating_sub(1)],
+        None => text,
     }
 }
 
-// Puts the system's words for an error into a text, and answers how many bytes they take.
-fn put_words(number: i32, text: &mut [u8]) -> usize
-    ensures { result ≤ length text.new }
-{
-    let size = text.len();
-    let mut rest = &mut text[..];
-    let error = Error::from_raw_os_error(number);
-    let _ = write!(rest, "{error}");
-    let put = size.saturating_sub(rest.len());
-    bare(&text[..put])
+// The system's words for an error, by way of room for them.
+fn words<const N: usize>(number: i32, room: &mut ArrayVec<u8, N>) -> &[u8] {
+    room.clear();
+    let _ = write!(room, "{}", Error::from_raw_os_error(number));
+    bare(room.as_slice())
 }
 
 impl Host {
     // Writes a line to standard error: what failed, a colon, and why the last call failed that did.
     pub fn fail(&mut self, what: &[u8]) {
-        let mut text = [0u8; 128];
-        let size = put_words(self.error, &mut text);
+        let mut room = ArrayVec::<u8, 128>::new();
+        let why = words(self.error, &mut room);
         self.write_all(ERRORS, what);
         self.write_all(ERRORS, b": ");
-        self.write_all(ERRORS, &text[..size]);
+        self.write_all(ERRORS, why);
         self.write_all(ERRORS, b"\n");
     }
 }
@@ -44,18 +36,16 @@ mod tests {
 
     #[test]
     fn errors_are_told_in_the_systems_words(rt: HostRuntime) {
-        let mut text = [0u8; 128];
-        let size = put_words(2, &mut text);
-        assert!(rt; &text[..size] == b"No such file or directory".as_slice());
-        let size = put_words(27, &mut text);
-        assert!(rt; &text[..size] == b"File too large".as_slice());
+        let mut room = ArrayVec::<u8, 128>::new();
+        assert!(rt; words(2, &mut room) == b"No such file or directory".as_slice());
+        assert!(rt; words(27, &mut room) == b"File too large".as_slice());
     }
 
     #[test]
     fn a_text_without_a_number_stays_whole(rt: HostRuntime) {
-        assert!(rt; bare(b"text") == 4);
-        assert!(rt; bare(b"") == 0);
-        assert!(rt; bare(b"(1)") == 0);
-        assert!(rt; bare(b"text (1)") == 4);
+        assert!(rt; bare(b"text").len() == 4);
+        assert!(rt; bare(b"").len() == 0);
+        assert!(rt; bare(b"(1)").len() == 0);
+        assert!(rt; bare(b"text (1)").len() == 4);
     }
 }

@@ -24,7 +24,7 @@ use Rattle.index.proofs.Questions.{step_many, fed_six}
 use Rattle.index.proofs.Conditions.{sound_conditions}
 
 -- ---- A refusal never says clean, and nothing after it counts.
-pub asked_refused : (r : Refusal) (c d : Bool) → (r.number ≡ 0 → ⊥) → asked_by r c ≡ asked_by r d
+asked_refused : (r : Refusal) (c d : Bool) → (r.number ≡ 0 → ⊥) → asked_by r c ≡ asked_by r d
 asked_refused r c d n = simp (ne_eqb _ _ n)
 
 refused_alike : (r x y : Refusal) (c d : Bool) → (r.number ≡ 0 → ⊥) → asked_by (or_else r x) c ≡ asked_by (or_else r y) d

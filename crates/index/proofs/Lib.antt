@@ -1,5 +1,4 @@
 pub mod Numbers
-pub mod Rooms
 pub mod Entries
 pub mod Questions
 pub mod Answers

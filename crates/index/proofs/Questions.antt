@@ -2,26 +2,26 @@
 use Prim.Native.Nat.{ℕ, suc, ◌+◌, ◌*◌, ◌-◌, ◌<◌, ◌≤◌}
 use mathlib.Core.Path.{◌≡◌, refl, sym, ap, ◌∙◌}
 use mathlib.Core.List.{List, [], ◌∷◌, ◌++◌, flatten}
-use mathlib.Core.Bool.{Bool, not, ◌&&◌, ◌||◌}
+use mathlib.Core.Bool.{Bool, not, ◌||◌}
 use native.Mathlib.Omega.{arith}
 use lib.ListN.{length, drop, get_or, drop_of_length-le}
 use lib.Seq.{drop-cons}
-use lib.Dec.{eqb, ltb, leb, lit<}
+use lib.Dec.{lit<}
 use borrow.Author.Tests.{eq-eqb, ne_eqb, lt-ltb, le-ltb}
 use Rattle.index.specs.declared.question.Question.{Question}
 use Rattle.index.specs.declared.entry.Entry.{Entry}
-use Rattle.index.specs.Entries.{entry_of, entry_well}
+use Rattle.index.specs.Entries.{entry_of, entry_well, within}
 use Rattle.index.specs.Asking.{between, gathered, entered, too_many, settled, step_of, fed_of, fed_all}
 
 pub step_many : (q : Question) (b : ℕ) → q.left ≡ 0 → step_of q b ≡ too_many q
 unfolding step_of
 step_many q b e = simp (eq-eqb _ _ e)
 
-pub step_gather : (q : Question) (b : ℕ) → (q.left ≡ 0 → ⊥) → q.place < 5 → step_of q b ≡ gathered q b
+step_gather : (q : Question) (b : ℕ) → (q.left ≡ 0 → ⊥) → q.place < 5 → step_of q b ≡ gathered q b
 unfolding step_of
 step_gather q b n l = simp (ne_eqb _ _ n, lt-ltb _ _ l)
 
-pub step_last : (q : Question) (b : ℕ) → (q.left ≡ 0 → ⊥) → 5 ≤ q.place
+step_last : (q : Question) (b : ℕ) → (q.left ≡ 0 → ⊥) → 5 ≤ q.place
     → step_of q b ≡ entered q (q.left - 1) (entry_of (q.c0 ∷ q.c1 ∷ q.c2 ∷ q.c3 ∷ q.c4 ∷ b ∷ []))
 unfolding step_of
 step_last q b n l = simp (ne_eqb _ _ n, le-ltb _ _ l)
@@ -87,7 +87,7 @@ pub fed_one_at : (q : Question) (bytes : List ℕ) (at : ℕ) → at < length by
 unfolding fed_of
 fed_one_at q bytes at l = ap (fed_of q) (drop_next bytes at (at + 1) (omega arith) l)
 
-pub fed_six_at : (q : Question) (bytes : List ℕ) (at : ℕ) → at + 6 ≤ length bytes → q.place ≡ 0 → 6 ≤ q.left
+fed_six_at : (q : Question) (bytes : List ℕ) (at : ℕ) → at + 6 ≤ length bytes → q.place ≡ 0 → 6 ≤ q.left
     → fed_of q (drop at bytes)
     ≡ fed_of
     (entered q (q.left - 6)
@@ -121,13 +121,6 @@ abbrev pub Ran : Question → List ℕ → ℕ → ℕ → ℕ → Bool → Bool
 Ran q bytes at k least unclean wrong =
     fed_of (settled q) (drop at bytes) ≡ fed_of (between q (q.left - 6 * k) least unclean wrong) (drop (at + 6 * k) bytes)
 
-pub ran_start : (q : Question) (bytes : List ℕ) (at : ℕ) → Ran q bytes at 0 q.least q.unclean q.wrong
-ran_start q bytes at =
-    let e : q.left ≡ q.left - 6 * 0 = omega arith in
-    let f : at ≡ at + 6 * 0 = omega arith in
-    ap (λ (n : ℕ). fed_of (between q n q.least q.unclean q.wrong) (drop at bytes)) e
-    ∙ ap (λ (n : ℕ). fed_of (between q (q.left - 6 * 0) q.least q.unclean q.wrong) (drop n bytes)) f
-
 pub ran_next : (q : Question) (bytes : List ℕ) (at k least : ℕ) (unclean wrong : Bool) {e : Entry} → Ran q bytes at k least unclean wrong
     → at + 6 * k + 6 ≤ length bytes → 6 * k + 6 ≤ q.left
     → e
@@ -139,9 +132,8 @@ pub ran_next : (q : Question) (bytes : List ℕ) (at k least : ℕ) (unclean wro
     ∷ get_or bytes (at + 6 * k + 4) 0
     ∷ get_or bytes (at + 6 * k + 5) 0
     ∷ [])
-    → Ran q bytes at (k + 1) (e.ordinal + 1) (unclean || (leb q.a e.ordinal && leb e.ordinal q.b))
-    (wrong || not (leb least e.ordinal && ltb e.ordinal q.lines && (eqb e.repairs 1 || eqb e.repairs 2)))
-unfolding between entry_well
+    → Ran q bytes at (k + 1) (e.ordinal + 1) (unclean || within q.a q.b e.ordinal) (wrong || not (entry_well least q.lines e))
+unfolding between
 ran_next q bytes at k least unclean wrong h l m is =
     let less : q.left - 6 * k - 6 ≡ q.left - 6 * (k + 1) = omega arith in
     let on : at + 6 * k + 6 ≡ at + 6 * (k + 1) = omega arith in

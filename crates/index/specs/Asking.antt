@@ -7,9 +7,8 @@ use Rattle.system.specs.Walk.{most_lines, named_refusal}
 use Rattle.index.specs.declared.entry.Entry.{Entry}
 use Rattle.index.specs.declared.trailer.Trailer.{Trailer}
 use Rattle.index.specs.declared.question.Question.{Question}
-use Rattle.index.specs.declared.Asked.{Asked}
 use Rattle.index.specs.Entries.{entry_length, entry_of, entry_well, within}
-use Rattle.index.specs.Parts.{trailer_length, trailer_of, line_size, range_refusal, asked_by}
+use Rattle.index.specs.Parts.{trailer_length, trailer_of, line_size, range_refusal, Asked, asked_by}
 
 -- what the trailer's numbers alone say of the parts: the index is taken to be six bytes per entry
 unfoldable pub trailer_fits : ℕ → Trailer → ℕ → Bool

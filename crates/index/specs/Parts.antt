@@ -1,14 +1,15 @@
 -- Document 02, L10: a finished file's parts, lines, index and trailer. When they fit, and what is answered of lines a to b.
-use Rattle.std.specs.Prelude.{ℕ, ◌+◌, ◌*◌, ◌-◌, List, ◌++◌, Bool, cond, not, ◌&&◌, ltb, leb, eqb, length, take, drop}
+use Rattle.std.specs.Prelude.{ℕ, ◌+◌, ◌*◌, ◌-◌, List, ◌++◌, Bool, false, cond, not, ◌&&◌, ltb, leb, eqb, length, take, drop, Result, Ok, Err}
 use Rattle.refusal.specs.declared.Refusal.{Refusal}
 use Rattle.refusal.specs.Numbers.{wrong_length, bad_parts, bad_range}
 use Rattle.refusal.specs.Answer.{refuse, or_else, written_by}
+use Rattle.refusal.specs.declared.Refused.{Refused}
+use Rattle.refusal.specs.Reasons.{number_of}
 use Rattle.words.specs.Bytes.{number_from, number_bytes}
 use Rattle.system.specs.Figures.{line_length, system_of}
 use Rattle.system.specs.Walk.{most_lines, named_refusal}
 use Rattle.index.specs.declared.entry.Entry.{Entry}
 use Rattle.index.specs.declared.trailer.Trailer.{Trailer}
-use Rattle.index.specs.declared.Asked.{Asked}
 use Rattle.index.specs.Entries.{entry_length, index_of, entry_bytes, index_bytes, entries_of, entries_well, none_within}
 
 -- "a trailer of sixteen bytes ends the file: index offset (8), entries (4), lines (4)"
@@ -81,6 +82,17 @@ parts_refusal system start trailer index file =
 -- "with 20 a range that leaves the file or has a after b, 19 first"
 abbrev pub range_refusal : ℕ → ℕ → ℕ → Refusal
 range_refusal lines a b = refuse (not (in_range lines a b)) bad_range 0
+
+-- the answer to a question: its number and place, and whether the lines are all clean
+pub record Asked : Type 0 where
+  pub number : ℕ
+  pub place : ℕ
+  pub clean : Bool
+
+-- the answer that a result tells: a refusal never says clean
+abbrev pub asked_told : Result Bool Refused → Asked
+asked_told (Ok clean) = record { number = 0; place = 0; clean = clean }
+asked_told (Err refused) = record { number = number_of refused.reason; place = refused.place; clean = false }
 
 -- an answer that this refuses, or nothing: a refusal never says clean
 abbrev pub asked_by : Refusal → Bool → Asked

@@ -1,73 +1,61 @@
 // An entry of the index: a line that was not clean.
-ghost use Rattle.std.specs.Prelude.{◌≡◌, [], ◌∷◌, ◌%◌, length};
-ghost use Rattle.words.specs.Bytes.{number_from};
-ghost use Rattle.index.specs.Entries.{entry_length, entry_of, entry_bytes};
+ghost use Rattle.std.specs.Prelude.{◌≡◌, length};
+ghost use Rattle.refusal.specs.Reasons.{answered};
+ghost use Rattle.index.specs.Entries.{entry_length, entry_of, entry_bytes, entry_well};
 ghost use Rattle.index.specs.Parts.{room_refusal, entry_after};
 
-use refusal::{Number, Refusal};
+use crate::room::put_bytes;
+use refusal::Refused;
 
 // The bytes of an entry: ordinal (4), repairs (2), low byte first.
 pub const ENTRY_LENGTH: usize = 6;
 
 // A line that was not clean: its ordinal from 0, and how many of its codes were repaired.
-#[derive(Clone, Copy)]
+#[derive(Clone, Copy, Debug, PartialEq, Eq)]
 pub struct Entry {
     pub ordinal: u32,
     pub repairs: u32,
 }
 
-// The lowest eight bits of a number.
-pub(crate) fn low(number: u64) -> u8
-    ensures { result ≡ number % 256 }
-{
-    (number % 256) as u8
-}
-
-// The number of four bytes.
-pub(crate) fn four(b0: u8, b1: u8, b2: u8, b3: u8) -> u32
-    ensures { result ≡ number_from (b0 ∷ b1 ∷ b2 ∷ b3 ∷ []) 0 4 }
-{
-    b0 as u32 + 256 * (b1 as u32) + 65536 * (b2 as u32) + 16777216 * (b3 as u32)
-}
-
 impl Entry {
     // The entry of six bytes.
-    pub fn of(b0: u8, b1: u8, b2: u8, b3: u8, b4: u8, b5: u8) -> Entry
-        ensures { result ≡ entry_of (b0 ∷ b1 ∷ b2 ∷ b3 ∷ b4 ∷ b5 ∷ []) }
+    #[tactic(auto, unfolding(crate::specs::Entries::entry_of, words::specs::Bytes::number_from))]
+    pub fn of(bytes: [u8; ENTRY_LENGTH]) -> Entry
+        ensures { result ≡ entry_of bytes }
     {
+        let [b0, b1, b2, b3, b4, b5] = bytes;
         Entry {
-            ordinal: four(b0, b1, b2, b3),
-            repairs: b4 as u32 + 256 * (b5 as u32),
+            ordinal: u32::from_le_bytes([b0, b1, b2, b3]),
+            repairs: u32::from(u16::from_le_bytes([b4, b5])),
         }
     }
 
-    // Fills six bytes.
-    fn fill(self, room: &mut [u8])
-        requires { length room.old ≡ entry_length }
-        ensures { room.new ≡ entry_bytes self }
+    // Whether it may stand where this ordinal is the least: it is below the lines, with 1 or 2 repairs.
+    #[tactic(auto, unfolding(crate::specs::Entries::entry_well))]
+    pub(crate) fn well(self, least: u64, lines: u32) -> bool
+        ensures { result ≡ entry_well least lines self }
     {
-        let ordinal = self.ordinal as u64;
-        let repairs = self.repairs as u64;
-        room[0] = low(ordinal);
-        room[1] = low(ordinal / 256);
-        room[2] = low(ordinal / 65536);
-        room[3] = low(ordinal / 16777216);
-        room[4] = low(repairs);
-        room[5] = low(repairs / 256);
+        (least <= u64::from(self.ordinal))
+            & (self.ordinal < lines)
+            & ((self.repairs == 1) | (self.repairs == 2))
+    }
+
+    // Its six bytes. Of the repairs the low 16 bits count.
+    fn bytes(self) -> [u8; ENTRY_LENGTH]
+        ensures { result ≡ entry_bytes self }
+    {
+        let mut bytes = [0; ENTRY_LENGTH];
+        bytes[..4].copy_from_slice(&self.ordinal.to_le_bytes());
+        bytes[4..].copy_from_slice(&self.repairs.to_le_bytes()[..2]);
+        bytes
     }
 
     // Puts the entry into bytes: 3 where they are not six, and then nothing is written. Of the repairs the low 16 bits count.
-    pub fn put(self, room: &mut [u8]) -> Refusal
-        ensures answer { result ≡ room_refusal entry_length (length room.old) }
+    #[tactic(auto, unfolding(crate::specs::Parts::entry_after))]
+    pub fn put(self, room: &mut [u8]) -> Result<(), Refused>
+        ensures answer { answered result ≡ room_refusal entry_length (length room.old) }
         ensures room { room.new ≡ entry_after self room.old }
     {
-        if room.len() != ENTRY_LENGTH {
-            return Refusal {
-                number: Number::WRONG_LENGTH,
-                place: 0,
-            };
-        }
-        self.fill(room);
-        Refusal::NONE
+        put_bytes(&self.bytes(), room)
     }
 }

@@ -1,16 +1,17 @@
 // A question in steps, for an index that arrives in pieces.
 ghost use Rattle.std.specs.Prelude.{◌≡◌, ◌+◌, ◌*◌, ◌≤◌, length, drop};
-ghost use Rattle.index.specs.Parts.{range_refusal};
+ghost use Rattle.refusal.specs.Reasons.{answered};
+ghost use Rattle.index.specs.Entries.{within};
+ghost use Rattle.index.specs.Parts.{range_refusal, asked_told};
 ghost use Rattle.index.specs.Asking.{Whole, begun_of, between, entered, settled, too_many, gathered, step_of, fed_of, refusal_of, closed_of};
 
-use crate::Asked;
 use crate::entry::{ENTRY_LENGTH, Entry};
 use crate::trailer::{TRAILER_LENGTH, Trailer};
-use refusal::{Number, Refusal};
+use refusal::{Reason, Refused};
 
 // An index that is read as its bytes arrive: the system, the start line and the lines of the file, the lines asked for, the bytes that are
 // left, the next byte's place in its entry and the bytes before it, the least ordinal that may follow, whether an entry fell among the lines
-// asked for, and whether something is wrong.
+// asked for, and whether something is wrong. Each stands by itself, as the question's definitions name it.
 #[derive(Clone, Copy)]
 pub struct Question {
     pub system: u32,
@@ -34,14 +35,19 @@ pub struct Question {
 fn whole(left: u64, rest: usize) -> usize
     ensures { Whole left rest result }
 {
-    if left / 6 < (rest / 6) as u64 {
-        return (left / 6) as usize;
-    }
-    rest / 6
+    (left / 6).min(rest as u64 / 6) as usize
+}
+
+// Whether an ordinal is among lines a to b, both included.
+fn within(a: u32, b: u32, ordinal: u32) -> bool
+    ensures { result ≡ within a b ordinal }
+{
+    (a <= ordinal) & (ordinal <= b)
 }
 
 impl Question {
     // A question before the first byte of the index, of a file of so many bytes with this trailer.
+    #[tactic(auto, using(system::proofs::Laws::longest), unfolding(crate::specs::Asking::begun_of))]
     pub fn begin(system: u32, start: u32, trailer: &[u8], length: u64, a: u32, b: u32) -> Question
         ensures { result ≡ begun_of system start trailer.now length a b }
     {
@@ -54,7 +60,7 @@ impl Question {
             lines: told.lines,
             a,
             b,
-            left: 6 * (told.entries as u64),
+            left: 6 * u64::from(told.entries),
             place: 0,
             c0: 0,
             c1: 0,
@@ -68,15 +74,11 @@ impl Question {
     }
 
     // The question between two entries, with these numbers.
+    #[tactic(auto, unfolding(crate::specs::Asking::between))]
     fn between(self, left: u64, least: u64, unclean: bool, wrong: bool) -> Question
         ensures { result ≡ between self left least unclean wrong }
     {
         Question {
-            system: self.system,
-            start: self.start,
-            lines: self.lines,
-            a: self.a,
-            b: self.b,
             left,
             place: 0,
             c0: 0,
@@ -87,6 +89,7 @@ impl Question {
             least,
             unclean,
             wrong,
+            ..self
         }
     }
 
@@ -94,17 +97,11 @@ impl Question {
     fn enter(self, left: u64, entry: Entry) -> Question
         ensures { result ≡ entered self left entry }
     {
-        let ordinal = entry.ordinal;
-        let repairs = entry.repairs;
-        let wide = ordinal as u64;
-        let well = (self.least <= wide)
-            & (ordinal < self.lines)
-            & ((repairs == 1) | (repairs == 2));
         self.between(
             left,
-            wide + 1,
-            self.unclean | ((self.a <= ordinal) & (ordinal <= self.b)),
-            self.wrong | !well,
+            u64::from(entry.ordinal) + 1,
+            self.unclean | within(self.a, self.b, entry.ordinal),
+            self.wrong | !entry.well(self.least, self.lines),
         )
     }
 
@@ -113,53 +110,45 @@ impl Question {
         requires { (at + 6 * count ≤ length bytes.now) × (6 * count ≤ self.left) }
         ensures { fed_of (settled self) (drop at bytes.now) ≡ fed_of result (drop (at + 6 * count) bytes.now) }
     {
-        let lines = self.lines;
-        let a = self.a;
-        let b = self.b;
         let mut least = self.least;
         let mut unclean = self.unclean;
         let mut wrong = self.wrong;
+        // By the count of the entries: of a chunk too each byte would be taken by its place.
         for k in 0..count {
             let p = at + 6 * k;
-            let entry = Entry::of(
+            let entry = Entry::of([
                 bytes[p],
                 bytes[p + 1],
                 bytes[p + 2],
                 bytes[p + 3],
                 bytes[p + 4],
                 bytes[p + 5],
-            );
-            let ordinal = entry.ordinal;
-            let repairs = entry.repairs;
-            let wide = ordinal as u64;
-            unclean = unclean | ((a <= ordinal) & (ordinal <= b));
-            wrong = wrong
-                | !((least <= wide) & (ordinal < lines) & ((repairs == 1) | (repairs == 2)));
-            least = wide + 1;
+            ]);
+            unclean = unclean | within(self.a, self.b, entry.ordinal);
+            wrong = wrong | !entry.well(least, self.lines);
+            least = u64::from(entry.ordinal) + 1;
         }
         self.between(self.left - 6 * (count as u64), least, unclean, wrong)
     }
 
     // The question after a byte past the entries that the trailer tells.
+    #[tactic(auto, unfolding(crate::specs::Asking::too_many))]
     fn too_many(self) -> Question
         ensures { result ≡ too_many self }
     {
-        let mut next = self;
-        next.wrong = true;
-        next
+        Question {
+            wrong: true,
+            ..self
+        }
     }
 
     // The question after one byte more of an entry that is not whole.
+    #[tactic(auto, unfolding(crate::specs::Asking::gathered))]
     fn gather(self, byte: u8) -> Question
         requires { (1 ≤ self.left) × (self.place ≤ 4) }
         ensures { result ≡ gathered self byte }
     {
         Question {
-            system: self.system,
-            start: self.start,
-            lines: self.lines,
-            a: self.a,
-            b: self.b,
             left: self.left - 1,
             place: self.place + 1,
             c0: self.c1,
@@ -167,13 +156,12 @@ impl Question {
             c2: self.c3,
             c3: self.c4,
             c4: byte,
-            least: self.least,
-            unclean: self.unclean,
-            wrong: self.wrong,
+            ..self
         }
     }
 
     // The question after one byte more.
+    #[tactic(auto, unfolding(crate::specs::Asking::step_of))]
     fn step(self, byte: u8) -> Question
         ensures { result ≡ step_of self byte }
     {
@@ -183,15 +171,17 @@ impl Question {
         if self.place < 5 {
             return self.gather(byte);
         }
-        let entry = Entry::of(self.c0, self.c1, self.c2, self.c3, self.c4, byte);
+        let entry = Entry::of([self.c0, self.c1, self.c2, self.c3, self.c4, byte]);
         self.enter(self.left - 1, entry)
     }
 
     // The question after a piece of the index, of any size. Whole entries are taken at once.
+    #[tactic(auto, using(crate::proofs::Questions::fed_one_at, crate::proofs::Questions::fed_settled, crate::proofs::Questions::fed_end))]
     pub fn feed(self, bytes: &[u8]) -> Question
         ensures { result ≡ fed_of self bytes.now }
     {
         let mut question = self;
+        // A turn takes one byte or many entries, so no iterator gives the places.
         let mut at: usize = 0;
         while at < bytes.len() {
             let rest = bytes.len() - at;
@@ -208,51 +198,35 @@ impl Question {
     }
 
     // What refuses the parts, where this was the whole index: 1, 2, 19.
-    pub fn refusal(self) -> Refusal
-        ensures { result ≡ refusal_of self }
+    #[tactic(auto, using(refusal::proofs::Results::err_first, refusal::proofs::Results::ok_first), unfolding(crate::specs::Asking::refusal_of))]
+    pub fn refusal(self) -> Result<(), Refused>
+        ensures { answered result ≡ refusal_of self }
     {
-        let named = system::named_refusal(self.system, self.start);
-        if named.number != 0 {
-            return named;
+        system::named_refusal(self.system, self.start)?;
+        if self.wrong || self.left != 0 {
+            return Err(Reason::BadParts.at(0));
         }
-        let bad_parts = Refusal {
-            number: Number::BAD_PARTS,
-            place: 0,
-        };
-        if self.wrong {
-            return bad_parts;
-        }
-        if self.left != 0 {
-            return bad_parts;
-        }
-        Refusal::NONE
+        Ok(())
     }
 
     // What refuses the lines asked for: 20.
-    fn range_refusal(self) -> Refusal
-        ensures { result ≡ range_refusal self.lines self.a self.b }
+    #[tactic(auto, unfolding(crate::specs::Parts::in_range))]
+    fn range_refusal(self) -> Result<(), Refused>
+        ensures { answered result ≡ range_refusal self.lines self.a self.b }
     {
-        let bad_range = Refusal {
-            number: Number::BAD_RANGE,
-            place: 0,
-        };
-        if self.b < self.a {
-            return bad_range;
+        if self.b < self.a || self.lines <= self.b {
+            return Err(Reason::BadRange.at(0));
         }
-        if self.lines <= self.b {
-            return bad_range;
-        }
-        Refusal::NONE
+        Ok(())
     }
 
-    // The answer, where this was the whole index.
-    pub fn close(self) -> Asked
-        ensures { result ≡ closed_of self }
+    // The answer, where this was the whole index: whether the lines are all clean.
+    #[tactic(auto, using(refusal::proofs::Results::err_first, refusal::proofs::Results::ok_first), unfolding(crate::specs::Asking::closed_of))]
+    pub fn close(self) -> Result<bool, Refused>
+        ensures { asked_told result ≡ closed_of self }
     {
-        let refusal = self.refusal();
-        if refusal.number != 0 {
-            return Asked::by(refusal, false);
-        }
-        Asked::by(self.range_refusal(), !self.unclean)
+        self.refusal()?;
+        self.range_refusal()?;
+        Ok(!self.unclean)
     }
 }

@@ -4,10 +4,8 @@
 ghost use Rattle.std.specs.Prelude.{◌≡◌, length};
 ghost use Rattle.intake.specs.Arrival.{told_of, WithinRoom, so_far, filled_after};
 
-use std::num::wrapping_add_usize;
-
 // What a read told.
-#[derive(Clone, Copy)]
+#[derive(Clone, Copy, Debug, PartialEq, Eq)]
 pub enum Told {
     Failed,
     Ended,
@@ -15,7 +13,8 @@ pub enum Told {
 }
 
 // What a read told by its count, where this was the room for its bytes. A failed read is never the end of the input; and a read into no
-// room tells nothing, since it would answer 0 as at the end.
+// room tells nothing, since it would answer 0 as at the end. The count is a bare number, as a read answers it: `told_of` gives any of them a
+// meaning.
 pub fn tells(got: isize, room: &[u8]) -> Told
     ensures told { result ≡ told_of got (length room.now) }
     ensures room { WithinRoom result (length room.now) }
@@ -33,7 +32,8 @@ pub fn tells(got: isize, room: &[u8]) -> Told
     Told::Bytes { count }
 }
 
-// How many bytes of a buffer were filled, and whether reading is done: the buffer is full, the input has ended, or a read failed.
+// How many bytes of a buffer were filled, and whether reading is done: the buffer is full, the input has ended, or a read failed. Two flags, since
+// `filled_after` tells of both whatever is read next.
 #[derive(Clone, Copy)]
 pub struct Filled {
     pub have: usize,
@@ -59,17 +59,16 @@ impl Filled {
     {
         match told {
             Told::Failed => Filled {
-                have: self.have,
                 done: true,
                 failed: true,
+                ..self
             },
             Told::Ended => Filled {
-                have: self.have,
                 done: true,
-                failed: false,
+                ..Filled::so_far(self.have)
             },
             Told::Bytes { count } => Filled {
-                have: wrapping_add_usize(self.have, count),
+                have: self.have.wrapping_add(count),
                 done: count == room,
                 failed: false,
             },

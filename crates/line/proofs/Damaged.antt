@@ -12,8 +12,7 @@ use borrow.Author.Tests.{le-ltb, lt-ltb, eq-eqb}
 use Rattle.refusal.specs.Answer.{none}
 use Rattle.refusal.proofs.Cases.{by_test, by_cond}
 use Rattle.refusal.proofs.Firsts.{first_none, first_at}
-use Rattle.packets.specs.declared.Space.{Space}
-use Rattle.packets.specs.Fault.{word_at}
+use Rattle.packets.specs.Fault.{Space, word_at}
 use Rattle.packets.proofs.Walks.{space_back}
 use Rattle.timing.specs.declared.Correction.{Correction}
 use Rattle.timing.specs.Code.{legal_of, fourth_of, seven_of, distance_of, correction_of}

@@ -13,7 +13,7 @@ use borrow.Author.Tests.{le-ltb, ltb-true, ltb-false}
 use Rattle.refusal.specs.Answer.{first_from}
 use Rattle.refusal.proofs.Cases.{by_test, by_cond}
 use Rattle.refusal.proofs.Firsts.{first_none_back}
-use Rattle.packets.specs.Fault.{word_at, ready_refusal}
+use Rattle.packets.specs.Fault.{Space, word_at, ready_refusal}
 use Rattle.timing.specs.Code.{legal_of, fourth_of, seven_of, distance_of, correction_of}
 use Rattle.timing.specs.Report.{code_report_of, repairs_in}
 use Rattle.timing.proofs.Every.{both, both_left, both_right, every, lift, lift2}
@@ -36,7 +36,6 @@ use Rattle.line.proofs.Faults.{ones_told, zeros_told, fourth_fault, sample_told}
 use Rattle.line.proofs.Spaces.{by_part, eav_apart, sav_apart, active_space_is, fault_apart, fault_between, fault_active, by_apart}
 use Rattle.line.proofs.Places.{taken_measured, taken_in_place}
 use Rattle.line.proofs.Writing.{line_length_is, line_word, written_apart, between_stands, between_fill, active_stands, active_fill}
-use Rattle.packets.specs.declared.Space.{Space}
 use Rattle.packets.proofs.Walks.{space_none}
 use Rattle.packets.proofs.Ready.{ReadReady, read_ready}
 

@@ -16,7 +16,7 @@ use Rattle.packets.proofs.Walks.{space_back}
 use Rattle.timing.specs.Code.{correction_of}
 use Rattle.timing.specs.Report.{number_where}
 use Rattle.system.specs.declared.due.Due.{Due}
-use Rattle.system.specs.declared.due.FillWords.{FillWords}
+use Rattle.words.specs.declared.FillWords.{FillWords}
 use Rattle.system.specs.Figures.{line_length, sav_offset, active_offset}
 use Rattle.system.specs.Due.{flags_of}
 use Rattle.system.proofs.Laws.{line_is_parts, sav_low, sav_even}

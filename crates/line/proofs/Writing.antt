@@ -10,7 +10,7 @@ use borrow.Author.Tests.{lt-ltb, le-ltb, le-leb, lt-leb, ltb-true, ltb-false}
 use Rattle.refusal.proofs.Cases.{by_test}
 use Rattle.packets.specs.Packet.{fill_word, Stands}
 use Rattle.system.specs.declared.due.Due.{Due}
-use Rattle.system.specs.declared.due.FillWords.{FillWords}
+use Rattle.words.specs.declared.FillWords.{FillWords}
 use Rattle.system.specs.Figures.{line_length, sav_offset, active_offset}
 use Rattle.system.proofs.Laws.{line_is_parts, sav_low}
 use Rattle.words.proofs.Tabs.{length_tab, get_d_tab}

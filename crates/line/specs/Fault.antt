@@ -5,10 +5,9 @@ use Rattle.refusal.specs.Numbers.{over_ten, no_code, no_fill, reserved}
 use Rattle.refusal.specs.Answer.{first_from}
 use Rattle.words.specs.Words.{most_word, least_sample, most_sample}
 use Rattle.packets.specs.declared.due.What as packet
-use Rattle.packets.specs.declared.Space.{Space}
 use Rattle.packets.specs.Due as spaceDue
 use Rattle.packets.specs.Fault as spaceFault
-use Rattle.packets.specs.Fault.{word_at, space_to}
+use Rattle.packets.specs.Fault.{Space, word_at, space_to}
 use Rattle.timing.specs.Code.{correction_of}
 use Rattle.timing.specs.Report.{number_where}
 use Rattle.system.specs.declared.due.Due.{Due}

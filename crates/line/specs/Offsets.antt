@@ -1,7 +1,7 @@
 -- Document 01, "Numbers and layout": what is due at each offset of a line.
 use Rattle.std.specs.Prelude.{ℕ, ◌-◌, ◌%◌, true, false, cond, ltb, eqb}
 use Rattle.system.specs.declared.due.Due.{Due}
-use Rattle.system.specs.declared.due.FillWords.{FillWords}
+use Rattle.words.specs.declared.FillWords.{FillWords}
 use Rattle.system.specs.Figures.{sav_offset, active_offset}
 use Rattle.system.specs.Due.{flags_of}
 use Rattle.line.specs.declared.What.{What}

@@ -4,7 +4,7 @@ use Rattle.std.specs.Prelude.{ℕ, ◌+◌, ◌<◌, ◌≤◌, ◌≡◌, true,
 use Rattle.words.specs.Words.{most_word}
 use Rattle.words.specs.Passes.{Sampled}
 use Rattle.system.specs.declared.due.Due.{Due}
-use Rattle.system.specs.declared.due.FillWords.{FillWords}
+use Rattle.words.specs.declared.FillWords.{FillWords}
 use Rattle.system.specs.Figures.{active_offset}
 use Rattle.line.specs.Offsets.{code_at}
 use Rattle.line.specs.Fault.{fault_where, active_space}

@@ -3,10 +3,12 @@
 
 ghost use Rattle.std.specs.Prelude.{◌≡◌};
 ghost use Rattle.line.specs.Offsets.{code_at, fill_at, due_at};
+ghost use Rattle.refusal.specs.Reasons.{answered};
 ghost use Rattle.line.specs.Lengths.{buffer_refusal};
 
-use refusal::{Number, Refusal};
-use system::{Due, FillWords};
+use refusal::{Reason, Refused};
+use system::Due;
+use words::FillWords;
 
 // The samples of an active part: CB, Y, CR, Y repeated.
 pub const ACTIVE_LENGTH: usize = 1440;
@@ -20,7 +22,7 @@ pub const LEAST_ONES: u16 = 1020;
 pub const MOST_ZEROS: u16 = 3;
 
 // What is due at one offset: a word of a timing code, fill, or a sample.
-#[derive(Clone, Copy)]
+#[derive(Clone, Copy, Debug, PartialEq, Eq)]
 pub enum What {
     Ones,
     Zeros,
@@ -33,30 +35,28 @@ pub enum What {
 fn code_at(fvh: u32, k: usize) -> What
     ensures { result ≡ code_at fvh k }
 {
-    if k == 0 {
-        return What::Ones;
+    match k {
+        0 => What::Ones,
+        1 | 2 => What::Zeros,
+        _ => What::Fourth { fvh },
     }
-    if k < 3 {
-        return What::Zeros;
-    }
-    What::Fourth { fvh }
 }
 
+// Fill, by its offset.
 fn fill_at(fill: FillWords, offset: usize) -> What
     ensures { result ≡ fill_at fill offset }
 {
-    if offset % 2 == 0 {
-        return What::Fill { word: fill.even };
+    What::Fill {
+        word: fill.at(offset),
     }
-    What::Fill { word: fill.odd }
 }
 
 // What is due at an offset of a line.
+#[tactic(auto, unfolding(crate::specs::Offsets::due_at))]
 pub fn due_at(due: Due, offset: usize) -> What
     ensures { result ≡ due_at due offset }
 {
-    let system = due.system;
-    let sav = system.sav_offset();
+    let sav = due.system.sav_offset();
     if offset < 4 {
         return code_at(due.flags(true), offset);
     }
@@ -73,26 +73,18 @@ pub fn due_at(due: Due, offset: usize) -> What
 }
 
 // What is wrong with the lengths of the sample buffers: 3 at the lowest place.
-pub fn buffer_refusal(y: usize, cb: usize, cr: usize) -> Refusal
-    ensures { result ≡ buffer_refusal y cb cr }
+#[tactic(auto, unfolding(crate::specs::Lengths::buffer_refusal, refusal::specs::Answer::or_else))]
+pub fn buffer_refusal(y: usize, cb: usize, cr: usize) -> Result<(), Refused>
+    ensures { answered result ≡ buffer_refusal y cb cr }
 {
     if y != 720 {
-        return Refusal {
-            number: Number::WRONG_LENGTH,
-            place: 1,
-        };
+        return Err(Reason::WrongLength.at(1));
     }
     if cb != 360 {
-        return Refusal {
-            number: Number::WRONG_LENGTH,
-            place: 2,
-        };
+        return Err(Reason::WrongLength.at(2));
     }
     if cr != 360 {
-        return Refusal {
-            number: Number::WRONG_LENGTH,
-            place: 3,
-        };
+        return Err(Reason::WrongLength.at(3));
     }
-    Refusal::NONE
+    Ok(())
 }

@@ -1,6 +1,7 @@
 // The crate serial.
 use cases::{Numbers, after_words, number, put_numbers, put_words, taken_words};
-use serial::{Answer, State};
+use refusal::Refusal;
+use serial::{Returned, State};
 
 // The longest slice that is coded: a little over the limit of the coder.
 pub const LONGEST: usize = 65_540;
@@ -22,17 +23,13 @@ fn state(payload: &[u8]) -> State {
     }
 }
 
-fn called(is_decoding: bool, state: State, words: &[u16], out: &mut [u16]) -> Answer {
-    if is_decoding {
-        return serial::decode(state, words, out);
-    }
-    serial::code(state, words, out)
-}
-
-fn of_coded(coded: Answer) -> Numbers {
-    let state = coded.state;
-    Numbers::one(coded.number)
-        .with_place(coded.place)
+fn of_coded(coded: Result<State, Returned>) -> Numbers {
+    let (answer, state) = match coded {
+        Ok(after) => (Refusal::NONE, after),
+        Err(returned) => (Refusal::from(returned.refused), returned.state),
+    };
+    Numbers::one(answer.number)
+        .with_place(answer.place)
         .with(state.scrambled)
         .with(state.last)
 }
@@ -45,7 +42,11 @@ fn code_words(
     out: &mut [u16],
     answer: &mut [u8],
 ) -> usize {
-    let coded = called(is_decoding, state, words, out);
+    let coded = if is_decoding {
+        serial::decode(state, words, out)
+    } else {
+        serial::code(state, words, out)
+    };
     let put_out = put_numbers(answer, of_coded(coded));
     put_words(answer, put_out, out)
 }

@@ -38,12 +38,21 @@ fn code_report(payload: &[u8]) -> Numbers {
     Numbers::none().with_code_report(timing::code_report(correction(payload)))
 }
 
+// timing::fault.
+fn fault(first: u32, fvh: u32) -> Numbers {
+    match timing::fault(word(first), fvh) {
+        Some(reason) => Numbers::one(reason.number()),
+        None => Numbers::one(0),
+    }
+}
+
 pub(crate) fn answered(kind: u32, first: u32, second: u32, payload: &[u8]) -> Numbers {
     match kind {
         1 => of_correction(timing::correct(word(first))),
         8 => Numbers::one(capture::fiskrogn_correct(first)),
-        10 => Numbers::one(timing::fourth(first) as u32),
+        10 => Numbers::one(u32::from(timing::fourth(first))),
         11 => of_correction(timing::correct_expecting(word(first), second)),
+        13 => fault(first, second),
         12 => code_report(payload),
         _ => Numbers::none(),
     }

@@ -2,15 +2,15 @@
 use crate::systems::system_number;
 use cases::{Numbers, WALK, number, wide};
 use line::What;
-use system::{Due, FillWords, Walk};
+use system::{Due, Walk};
+use words::FillWords;
 
 fn of_due(due: Due) -> Numbers {
-    let system = due.system;
-    Numbers::one(system_number(system))
+    Numbers::one(system_number(due.system))
         .with_truth(due.f)
         .with_truth(due.v)
-        .with(due.fill.even as u32)
-        .with(due.fill.odd as u32)
+        .with(u32::from(due.fill.even))
+        .with(u32::from(due.fill.odd))
 }
 
 fn pair(what: u32, value: u32) -> Numbers {
@@ -23,7 +23,7 @@ fn of_what(what: What) -> Numbers {
         What::Ones => pair(0, 0),
         What::Zeros => pair(1, 0),
         What::Fourth { fvh } => pair(2, fvh),
-        What::Fill { word } => pair(3, word as u32),
+        What::Fill { word } => pair(3, u32::from(word)),
         What::Sample => pair(4, 0),
     }
 }
@@ -91,7 +91,7 @@ fn at(payload: &[u8]) -> Numbers {
 
 // line::buffer_refusal.
 fn buffer_refusal(payload: &[u8]) -> Numbers {
-    Numbers::of_refusal(line::buffer_refusal(
+    Numbers::of_result(line::buffer_refusal(
         place(payload, 0),
         place(payload, 8),
         place(payload, 16),

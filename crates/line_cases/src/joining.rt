@@ -10,5 +10,5 @@ fn byte(number: u32) -> u8 {
 pub(crate) fn answered(low: u32, high: u32, payload: &[u8]) -> Numbers {
     let word = words::word_of(byte(low), byte(high));
     let pair = words::pair_of(low_word(number(payload, 8)), low_word(number(payload, 12)));
-    Numbers::one(word as u32).with(pair)
+    Numbers::one(u32::from(word)).with(pair)
 }

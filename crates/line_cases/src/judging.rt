@@ -24,17 +24,28 @@ fn judged(walk: Walk, words: &mut [u16]) -> Numbers {
     Numbers::of_judgement(reader::judge(walk, words))
 }
 
-fn over(words: &mut [u16]) -> Numbers {
-    Numbers::of_refusal(words::first_over(words))
+// The words that are the whole payload behind their count, by way of room for them: none where it is another's.
+fn whole<'a>(payload: &[u8], room: &'a mut [u16]) -> Option<&'a mut [u16]> {
+    if after_words(payload, MOST_WORDS, 0, 4) != payload.len() {
+        return None;
+    }
+    Some(taken_words(payload, 0, 4, room))
 }
 
 // words::first_over.
 pub(crate) fn first_over(payload: &[u8]) -> Numbers {
-    let mut words = [0u16; MOST_WORDS];
-    if after_words(payload, MOST_WORDS, 0, 4) != payload.len() {
-        return Numbers::none();
+    match whole(payload, &mut [0; MOST_WORDS]) {
+        Some(words) => Numbers::of_result(words::first_over(words)),
+        None => Numbers::none(),
     }
-    over(taken_words(payload, 0, 4, &mut words))
+}
+
+// words::all_samples.
+pub(crate) fn all_samples(payload: &[u8]) -> Numbers {
+    match whole(payload, &mut [0; MOST_WORDS]) {
+        Some(words) => Numbers::none().with_truth(words::all_samples(words)),
+        None => Numbers::none(),
+    }
 }
 
 // reader::judge.

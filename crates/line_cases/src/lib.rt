@@ -8,6 +8,7 @@ mod dues;
 mod joining;
 mod judging;
 mod lines;
+mod reasons;
 mod slices;
 mod spaces;
 mod systems;
@@ -20,9 +21,9 @@ pub use coding::LONGEST;
 // The bytes of what each kind of numbers brings.
 fn size_of(kind: u32) -> usize {
     match kind {
-        2 | 11 | 21 | 24 | 28 => 8,
+        2 | 11 | 13 | 21 | 24 | 28 | 47 => 8,
         30 | 38 | 39 => 12,
-        12 | 25 | 36 => 16,
+        12 | 25 | 36 | 48 => 16,
         31 | 33 => 24,
         32 => 28,
         26 => WALK,
@@ -44,9 +45,11 @@ fn on_numbers(kind: u32, payload: &[u8]) -> Numbers {
     let second = number(payload, 4);
     match kind {
         2 | 20..=24 | 28 => systems::answered(kind, first, second),
-        1..=12 => correction::answered(kind, first, second, payload),
+        1..=13 => correction::answered(kind, first, second, payload),
         30..=33 | 35 => dues::answered(kind, payload),
         36 => joining::answered(first, second, payload),
+        47 => reasons::answered(first, second),
+        48 => spaces::fill_word(payload),
         38..=39 => systems::written(kind, first, second, number(payload, 8)),
         _ => walks::answered(kind, walk(payload, 0), payload),
     }
@@ -58,6 +61,7 @@ fn answered(kind: u32, payload: &[u8]) -> Numbers {
         9 => judging::capture_judge(payload),
         37 => judging::first_over(payload),
         42 => judging::judge(payload),
+        49 => judging::all_samples(payload),
         50 => coding::fresh(payload),
         51 => spaces::judge(payload),
         _ => on_numbers(kind, payload),

@@ -11,7 +11,7 @@ fn put_samples(answer: &mut [u8], at: usize, y: &[u16], cb: &[u16], cr: &[u16]) 
 
 // reader::take.
 fn take(payload: &[u8], words: &[u16], y: &mut [u16], cb: &mut [u16], cr: &mut [u16]) -> Numbers {
-    Numbers::of_refusal(reader::take(walk(payload, 0), words, y, cb, cr))
+    Numbers::of_result(reader::take(walk(payload, 0), words, y, cb, cr))
 }
 
 // writer::write_part.
@@ -22,7 +22,7 @@ fn write_part(
     active: &[u16],
     words: &mut [u16],
 ) -> Numbers {
-    Numbers::of_refusal(writer::write_part(due(payload), part, between, active, words))
+    Numbers::of_result(writer::write_part(due(payload), part, between, active, words))
 }
 
 fn called(

@@ -1,6 +1,6 @@
 // The crate system: the figures of the two systems, and fresh walks.
 use cases::Numbers;
-use system::{Fresh, System, System525, System625};
+use system::{Figures, Fresh, System, System525, System625};
 
 fn of_fresh(fresh: Fresh) -> Numbers {
     Numbers::one(fresh.number)
@@ -54,7 +54,7 @@ fn flags(system: System, line: u32) -> Numbers {
 // The calls on the numbers of a line that is to be written: its system's, its own, and that of the line at which V of the first field falls.
 pub(crate) fn written(kind: u32, system: u32, line: u32, fall: u32) -> Numbers {
     match kind {
-        38 => Numbers::of_refusal(system::written_refusal(system, line, fall)),
+        38 => Numbers::of_result(system::written_refusal(system, line, fall)),
         39 => Numbers::none().with_truth(system::system_of(system).v_written(line, fall)),
         _ => Numbers::none(),
     }
@@ -68,7 +68,7 @@ pub(crate) fn answered(kind: u32, first: u32, second: u32) -> Numbers {
         22 => Numbers::one(system_number(system::system_of(first))),
         23 => figures(system::system_of(first)),
         24 => flags(system::system_of(first), second),
-        28 => Numbers::of_refusal(system::named_refusal(first, second)),
+        28 => Numbers::of_result(system::named_refusal(first, second)),
         _ => Numbers::none(),
     }
 }

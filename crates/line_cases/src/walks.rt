@@ -19,7 +19,7 @@ fn repairs(payload: &[u8]) -> Numbers {
 
 // Walk::standing.
 fn standing(walk: Walk, payload: &[u8]) -> Numbers {
-    Numbers::of_refusal(walk.standing(place(payload, WALK), place(payload, WALK + 8)))
+    Numbers::of_result(walk.standing(place(payload, WALK), place(payload, WALK + 8)))
 }
 
 // Walk::moved.
@@ -50,7 +50,7 @@ fn accepted(walk: Walk, payload: &[u8]) -> Numbers {
 pub(crate) fn answered(kind: u32, walk: Walk, payload: &[u8]) -> Numbers {
     match kind {
         25 => repairs(payload),
-        26 => Numbers::of_refusal(walk.refusal()),
+        26 => Numbers::of_result(walk.refusal()),
         27 => moved(walk, payload),
         29 => standing(walk, payload),
         34 => at_walk(walk, payload),

@@ -2,7 +2,7 @@
 use crate::dues::due;
 use crate::slices::{are_all, taken};
 use cases::{MOST_WORDS, Numbers, number, put_numbers, put_words};
-use refusal::Refusal;
+use refusal::Refused;
 
 // writer::write, or writer::write_line.
 fn written(
@@ -14,7 +14,7 @@ fn written(
     between: &[u16],
     active: &[u16],
     words: &mut [u16],
-) -> Refusal {
+) -> Result<(), Refused> {
     if kind == 43 {
         return writer::write_line(due(payload), y, cb, cr, between, active, words);
     }
@@ -35,8 +35,8 @@ fn put_written(
     words: &mut [u16],
     answer: &mut [u8],
 ) -> usize {
-    let refusal = written(kind, payload, y, cb, cr, between, active, words);
-    let at = put_numbers(answer, Numbers::of_refusal(refusal));
+    let result = written(kind, payload, y, cb, cr, between, active, words);
+    let at = put_numbers(answer, Numbers::of_result(result));
     put_words(answer, at, words)
 }
 

@@ -15,12 +15,11 @@ use Rattle.refusal.proofs.Cases.{by_test, by_cond, not_true}
 use Rattle.refusal.proofs.Tables.{Numbers, numbers_when, numbers_before, keeps_lowest, decides_when, decides_before, decides_lowest}
 use Rattle.words.specs.Words.{most_word, least_sample, most_sample}
 use Rattle.words.proofs.Passes.{reserved_test}
-use Rattle.packets.specs.declared.Space.{Space}
 use Rattle.packets.specs.declared.due.What.{What}
 use Rattle.packets.specs.declared.due.What.TheVariants.{Exactly, Header, Count, User, Checksum}
 use Rattle.packets.specs.Packet.{header_of}
 use Rattle.packets.specs.Due.{due_at}
-use Rattle.packets.specs.Fault.{wrong_where, fault_where, fault_at, word_at, space_of, no_word, ready_fault, ready_refusal}
+use Rattle.packets.specs.Fault.{Space, wrong_where, fault_where, fault_at, word_at, space_of, no_word, ready_fault, ready_refusal}
 use Rattle.packets.specs.Refusals.{BadParity, where_refusals, place_refusals, ready_refusals}
 use Rattle.packets.proofs.Tests.{cond_not}
 use Rattle.packets.proofs.Froms.{from_later, from_same}

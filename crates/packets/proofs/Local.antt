@@ -1,16 +1,18 @@
 -- The faults of a space, and the answer to it, are those of its own words: two lines with the same words there have the same faults there.
 -- Assumes nothing.
 use Prim.Native.Nat.{ℕ, zero, suc, ◌+◌, ◌-◌, ◌<◌, ◌≤◌}
-use mathlib.Core.Path.{◌≡◌, refl, sym, ◌∙◌}
+use mathlib.Core.Path.{◌≡◌, refl, sym, ap, ◌∙◌}
 use mathlib.Core.Bool.{Bool, true, false, cond, ◌&&◌}
 use native.Mathlib.Omega.{arith}
 use lib.Dec.{ltb, eqb}
-use borrow.Author.Tests.{ltb-true, ltb-false}
-use Rattle.refusal.proofs.Cases.{by_test}
+use borrow.Author.Tests.{ltb-true, ltb-false, leb-true, leb-false}
+use Rattle.refusal.proofs.Cases.{by_test, by_cond}
 use Rattle.packets.specs.declared.due.What.TheVariants.{Exactly}
 use Rattle.packets.specs.Packet.{fill_word}
 use Rattle.packets.specs.Due.{starts_at, size_at, sum_from, due_in, holder_at, due_from, due_at}
-use Rattle.packets.specs.Fault.{fault_at, space_to}
+use Rattle.std.specs.Prelude.{List, length, take, min, leb}
+use Rattle.std.proofs.lemmas.List.{get_or-take, length-take-le}
+use Rattle.packets.specs.Fault.{word_at, space_of, fault_at, space_to}
 use Rattle.packets.proofs.Froms.{from_same}
 use Rattle.packets.proofs.Openings.{started, no_room, by_three}
 
@@ -96,8 +98,14 @@ module _ (u v : ℕ → ℕ) (start stop : ℕ) (same : (j : ℕ) → start ≤ 
   pub same_space : (even odd : ℕ) → space_to u start stop even odd ≡ space_to v start stop even odd
   unfolding space_to
   same_space even odd =
-      rw (
-        from_same (fault_at u start stop even odd) (fault_at v start stop even odd) (stop - start) start
-            (λ j l m. same_fault even odd j l (omega arith)),
-        same_holder (stop - start),
-      ) refl
+      rw (from_same (fault_at u start stop even odd) (fault_at v start stop even odd) (stop - start) start (λ j l m. same_fault even odd j l (omega arith)))
+      (simp same_holder)
+
+-- the words behind a space do not matter
+pub space_taken : (words : List ℕ) (start stop end even odd : ℕ) → stop ≡ min end (length words)
+    → space_to (word_at (take stop words)) start (length (take stop words)) even odd ≡ space_of words start end even odd
+space_taken words start stop end even odd e =
+    rw (length-take-le stop words (omega (arith, e)))
+    (same_space (word_at (take stop words)) (word_at words) start stop (λ j _ m. get_or-take stop words j 0 m) even odd
+    ∙ ap (λ (n : ℕ). space_to (word_at words) start n even odd)
+    (by_cond (λ (n : ℕ). stop ≡ n) (leb end (length words)) end (length words) (λ t. omega (arith, e, leb-true _ _ t)) (λ t. omega (arith, e, leb-false _ _ t))))

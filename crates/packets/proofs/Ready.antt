@@ -12,10 +12,9 @@ use Rattle.refusal.specs.Answer.{none, first_from}
 use Rattle.refusal.proofs.Cases.{by_test, by_cond}
 use Rattle.refusal.proofs.Firsts.{same_number}
 use Rattle.words.specs.Words.{most_word}
-use Rattle.packets.specs.declared.Space.{Space}
 use Rattle.packets.specs.Packet.{Packet, packet_words, size_of, sizes_of, fill_word, space_words, Stands, Writing}
 use Rattle.packets.specs.Due.{due_at}
-use Rattle.packets.specs.Fault.{word_at, fault_at, space_to, no_word, ready_fault, ready_refusal}
+use Rattle.packets.specs.Fault.{Space, word_at, fault_at, space_to, no_word, ready_fault, ready_refusal}
 use Rattle.packets.proofs.Froms.{from_none, from_moved}
 use Rattle.packets.proofs.Walks.{space_back}
 use Rattle.packets.proofs.Numbers.{at_most_ten}

@@ -7,9 +7,8 @@ use native.Mathlib.Omega.{arith}
 use lib.ListN.{length, get_or, length-append}
 use lib.Seq.{ext_get_or}
 use Rattle.refusal.proofs.Firsts.{same_number}
-use Rattle.packets.specs.declared.Space.{Space}
 use Rattle.packets.specs.Packet.{Packet, AllWell, packet_words, size_of, sizes_of, packets_words, fill_from, space_words}
-use Rattle.packets.specs.Fault.{word_at, no_word, ready_refusal}
+use Rattle.packets.specs.Fault.{Space, word_at, no_word, ready_refusal}
 use Rattle.packets.proofs.Written.{length_words}
 use Rattle.packets.proofs.Theorems.{written_counts, written_apart}
 use Rattle.packets.proofs.Ready.{ready_none, ready_written, all_packets}

@@ -2,34 +2,38 @@
 use Prim.Native.Nat.{ℕ, suc, ◌+◌, ◌-◌, ◌%◌, ◌<◌, ◌≤◌}
 use mathlib.Core.Path.{◌≡◌, refl, sym, ap, ◌∙◌}
 use mathlib.Core.List.{List}
-use mathlib.Core.Logic.{◌⊎◌, inl, inr}
-use mathlib.Core.Bool.{Bool, true, false, cond, ◌&&◌}
+use mathlib.Core.Bool.{cond, ◌&&◌}
 use native.Mathlib.Omega.{arith}
-use lib.Dec.{ltb, eqb}
-use borrow.Author.Tests.{ltb-true, ltb-false, ne_eqb, eqb-true, eqb-false}
-use Rattle.refusal.proofs.Cases.{by_test}
+use lib.Dec.{eqb}
+use borrow.Author.Tests.{ne_eqb, eqb-true, eqb-false}
+use Rattle.refusal.proofs.Cases.{by_test, by_cond}
 use Rattle.packets.specs.declared.due.What.{What}
+use Rattle.packets.specs.declared.due.Holder.{Holder}
 use Rattle.packets.specs.Due.{starts_at, size_at, sum_from, holder_at, due_from, due_at}
 use Rattle.packets.specs.Fault.{fault_where, word_at, fault_at, space_to}
+use Rattle.packets.specs.Passes.{Summed}
 use Rattle.packets.proofs.Froms.{Clear, from_none, from_at, from_back}
 
--- ---- the sum, one word on
-pub sum_step : (word : ℕ → ℕ) (p i sum : ℕ) → p ≤ i → sum ≡ sum_from word (p + 3) (i - p - 3) % 512
-    → cond (ltb (i - p) 3) 0 ((sum + word i % 512) % 512) ≡ sum_from word (p + 3) (i + 1 - p - 3) % 512
+-- ---- what holds an offset, with its sum: from where it starts, and one word on
+pub summed_start : (word : ℕ → ℕ) (i : ℕ) → Summed word (record { start = i; sum = 0 }) i
 unfolding sum_from
-sum_step word p i sum l e =
-    by_test (ltb (i - p) 3)
-    (λ t. simp t (ap (λ (n : ℕ). sum_from word (p + 3) n % 512) (few (ltb-true _ _ t))))
-    (λ t. simp t (more (ltb-false _ _ t)))
-  where
-    few : i - p < 3 → 0 ≡ i + 1 - p - 3
-    few h = omega arith
+summed_start word i =
+    let n : i - i - 3 ≡ 0 = omega arith in
+    (omega arith, simp n)
 
-    more : 3 ≤ i - p → (sum + word i % 512) % 512 ≡ sum_from word (p + 3) (i + 1 - p - 3) % 512
-    more h =
-        let n : i + 1 - p - 3 ≡ suc (i - p - 3) = omega arith in
-        let q : p + 3 + (i - p - 3) ≡ i = omega arith in
-        rw (n, q) (omega arith)
+pub summed_few : (word : ℕ → ℕ) (holder : Holder) (i : ℕ) → i - holder.start < 3 → Summed word holder i → Summed word holder (i + 1)
+summed_few word holder i h s =
+    let n : i + 1 - holder.start - 3 ≡ i - holder.start - 3 = omega arith in
+    (omega (arith, s.0), rw n s.1)
+
+pub summed_more : (word : ℕ → ℕ) (holder : Holder) (i : ℕ) → 3 ≤ i - holder.start → Summed word holder i
+    → Summed word (record { start = holder.start; sum = (holder.sum + word i % 512) % 512 }) (i + 1)
+unfolding sum_from
+summed_more word holder i h s =
+    let p = holder.start in
+    let n : i + 1 - p - 3 ≡ suc (i - p - 3) = omega arith in
+    let q : p + 3 + (i - p - 3) ≡ i = omega arith in
+    (omega (arith, s.0), rw (n, q) (omega (arith, s.1)))
 
 module _ (word : ℕ → ℕ) (start stop : ℕ) where
   -- ---- what holds an offset, one word on
@@ -59,34 +63,32 @@ module _ (word : ℕ → ℕ) (start stop : ℕ) where
     unfolding space_to
     space_back e j l m = from_back (fault_at word start stop even odd) (stop - start) start e j l (omega arith)
 
--- ---- what the loop keeps: the packet or fill that holds the offset, the sum of its words so far, and that nothing was wrong
-pub record Walked (words : List ℕ) (start stop even odd p sum i : ℕ) : Type 0 where
-  pub from : start ≤ p
-  pub to : p ≤ i
+-- ---- what the loop keeps: what holds the offset, with its sum, and that nothing was wrong
+pub record Walked (words : List ℕ) (start stop even odd : ℕ) (holder : Holder) (i : ℕ) : Type 0 where
+  pub from : start ≤ holder.start
   pub within : i - start ≤ stop - start
-  pub holds : p ≡ holder_at (word_at words) start stop (i - start)
-  pub summed : sum ≡ sum_from (word_at words) (p + 3) (i - p - 3) % 512
+  pub holds : holder.start ≡ holder_at (word_at words) start stop (i - start)
+  pub summed : Summed (word_at words) holder i
   pub quiet : Quiet (word_at words) start stop even odd i
 
 module _ (words : List ℕ) (start stop even odd : ℕ) where
   -- the loop begins
-  pub walked_start : Walked words start stop even odd start 0 start
-  unfolding holder_at sum_from
+  pub walked_start : Walked words start stop even odd (record { start = start; sum = 0 }) start
+  unfolding holder_at
   walked_start =
       let n : start - start ≡ 0 = omega arith in
       record {
         from = omega arith;
-        to = omega arith;
         within = omega arith;
         holds = simp n;
-        summed = simp n;
+        summed = summed_start (word_at words) start;
         quiet = λ j l m. absurd (omega arith);
       }
 
-  module _ (p sum i : ℕ) (w : Walked words start stop even odd p sum i) where
+  module _ (holder : Holder) (i : ℕ) (w : Walked words start stop even odd holder i) where
     -- what is found wrong at the offset
-    pub walked_fault : (due : What) (number : ℕ) → due ≡ due_from (word_at words) stop even odd p i → number ≡ fault_where due (word_at words i)
-        → number ≡ fault_at (word_at words) start stop even odd i
+    pub walked_fault : (due : What) (number : ℕ) → due ≡ due_from (word_at words) stop even odd holder.start i
+        → number ≡ fault_where due (word_at words i) → number ≡ fault_at (word_at words) start stop even odd i
     unfolding fault_at due_at
     walked_fault due number d n =
         n ∙ ap (λ (t : What). fault_where t (word_at words i)) (d ∙ ap (λ (q : ℕ). due_from (word_at words) stop even odd q i) w.holds)
@@ -95,9 +97,10 @@ module _ (words : List ℕ) (start stop even odd : ℕ) where
       pub walked_at : (number : ℕ) → number ≡ fault_at (word_at words) start stop even odd i → (number ≡ 0 → ⊥)
           → record { number = number; place = i; packets = 0 } ≡ space_to (word_at words) start stop even odd
       walked_at number e b =
+          let s = w.summed in
           rw e (sym (space_at (word_at words) start stop even odd i (omega arith) l w.quiet (λ z. b (e ∙ z))))
 
-      -- the loop goes on, in the next packet or in the same
+      -- the loop goes on
       module _ (e : fault_at (word_at words) start stop even odd i ≡ 0) where
         quiet_next : Quiet (word_at words) start stop even odd (i + 1)
         quiet_next j q m =
@@ -107,47 +110,21 @@ module _ (words : List ℕ) (start stop even odd : ℕ) where
             below : (j : ℕ) → j < i + 1 → (j ≡ i → ⊥) → j < i
             below j m ne = omega arith
 
-        holder_next : (t : Bool) → (starts_at (word_at words) stop p && eqb (i + 1) (p + size_at (word_at words) p)) ≡ t
-            → holder_at (word_at words) start stop (i + 1 - start) ≡ cond t (i + 1) p
-        holder_next t u =
-            let n : i + 1 - start ≡ suc (i - start) = omega arith in
-            rw n (holder_step (word_at words) start stop (i - start) (i + 1) (omega arith) ∙ rw (← w.holds) (rw u refl))
-
-        pub walked_past : (starts_at (word_at words) stop p && eqb (i + 1) (p + size_at (word_at words) p)) ≡ true
-            → Walked words start stop even odd (i + 1) 0 (i + 1)
-        unfolding sum_from
-        walked_past u =
-            let n : i + 1 - (i + 1) - 3 ≡ 0 = omega arith in
+        pub walked_on : (next : Holder)
+            → next.start ≡ cond (starts_at (word_at words) stop holder.start && eqb (i + 1) (holder.start + size_at (word_at words) holder.start)) (i + 1) holder.start
+            → Summed (word_at words) next (i + 1) → Walked words start stop even odd next (i + 1)
+        walked_on next s m =
+            let n : i + 1 - start ≡ suc (i - start) = omega (arith, w.summed.0, w.from) in
             record {
-              from = omega arith;
-              to = omega arith;
+              from = rw s (by_cond (λ (q : ℕ). start ≤ q) (starts_at (word_at words) stop holder.start && eqb (i + 1) (holder.start + size_at (word_at words) holder.start)) (i + 1) holder.start (λ _. omega (arith, w.summed.0, w.from)) (λ _. w.from));
               within = omega arith;
-              holds = sym (holder_next true u);
-              summed = simp n;
+              holds = s ∙ rw (n, w.holds) (sym (holder_step (word_at words) start stop (i - start) (i + 1) (omega (arith, w.summed.0, w.from))));
+              summed = m;
               quiet = quiet_next;
             }
-
-        pub walked_in : (starts_at (word_at words) stop p && eqb (i + 1) (p + size_at (word_at words) p)) ≡ false
-            → (s : ℕ) → s ≡ cond (ltb (i - p) 3) 0 ((sum + word_at words i % 512) % 512) → Walked words start stop even odd p s (i + 1)
-        walked_in u s q =
-            record {
-              from = w.from;
-              to = omega arith;
-              within = omega arith;
-              holds = sym (holder_next false u);
-              summed = q ∙ sum_step (word_at words) p i sum w.to w.summed;
-              quiet = quiet_next;
-            }
-
-        -- the two ways into the next turn, where they meet
-        pub walked_on : (p' s' s : ℕ) (t : Bool) → t ≡ (starts_at (word_at words) stop p && eqb (i + 1) (p + size_at (word_at words) p))
-            → s ≡ cond (ltb (i - p) 3) 0 ((sum + word_at words i % 512) % 512)
-            → ((t ≡ true) × (p' ≡ i + 1) × (s' ≡ 0)) ⊎ ((t ≡ false) × (p' ≡ p) × (s' ≡ s)) → Walked words start stop even odd p' s' (i + 1)
-        walked_on p' s' s t u q (inl (a, b, c)) = rw (b, c) (walked_past (sym u ∙ a))
-        walked_on p' s' s t u q (inr (a, b, c)) = rw (b, c) (walked_in (sym u ∙ a) s q)
 
     -- the loop ends
-    pub walked_end : stop ≤ i → record { number = 0; place = 0; packets = p - start } ≡ space_to (word_at words) start stop even odd
+    pub walked_end : stop ≤ i → record { number = 0; place = 0; packets = holder.start - start } ≡ space_to (word_at words) start stop even odd
     walked_end l =
         let n : stop - start ≡ i - start = omega arith in
         sym (space_none (word_at words) start stop even odd (λ j q m. w.quiet j q (omega arith))

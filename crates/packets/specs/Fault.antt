@@ -1,10 +1,11 @@
 -- Document 02, L6: what is wrong with the words of a space of a line, and the whole answer of judging it.
-use Rattle.std.specs.Prelude.{ℕ, ◌+◌, ◌-◌, ◌%◌, List, cond, ◌||◌, ltb, leb, eqb, length, get_or}
+use Rattle.std.specs.Prelude.{ℕ, ◌+◌, ◌-◌, ◌%◌, List, cond, ◌||◌, ltb, leb, eqb, length, get_or, Result, Ok, Err}
 use Rattle.refusal.specs.declared.Refusal.{Refusal}
+use Rattle.refusal.specs.declared.Refused.{Refused}
 use Rattle.refusal.specs.Numbers.{over_ten, no_fill, reserved, bad_parity, bad_checksum, packet_past}
 use Rattle.refusal.specs.Answer.{first_from}
+use Rattle.refusal.specs.Reasons.{number_of}
 use Rattle.words.specs.Words.{most_word, least_sample, most_sample}
-use Rattle.packets.specs.declared.Space.{Space}
 use Rattle.packets.specs.declared.due.What.{What}
 use Rattle.packets.specs.declared.due.What.TheVariants.{Exactly, Header, Count, User, Checksum}
 use Rattle.packets.specs.Packet.{header_of}
@@ -38,6 +39,17 @@ word_at words i = get_or words i 0
 -- a space ends where the line does at the latest
 abbrev pub stop_of : List ℕ → ℕ → ℕ
 stop_of words end = cond (leb end (length words)) end (length words)
+
+-- the answer to a space: its first fault, or number 0 and how many of its words are packets
+pub record Space : Type 0 where
+  pub number : ℕ
+  pub place : ℕ
+  pub packets : ℕ
+
+-- such an answer of a result
+abbrev pub space_told : Result ℕ Refused → Space
+space_told (Ok packets) = record { number = 0; place = 0; packets = packets }
+space_told (Err refused) = record { number = number_of refused.reason; place = refused.place; packets = 0 }
 
 -- the lowest offset with any fault, or "how many words of each space are packets, 0 if it refuses"
 unfoldable pub space_to : (ℕ → ℕ) → ℕ → ℕ → ℕ → ℕ → Space

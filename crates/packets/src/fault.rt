@@ -1,11 +1,12 @@
 // What is wrong with one word of a space, by what is due where it stands.
-ghost use Rattle.std.specs.Prelude.{◌≡◌, cond, ◌%◌, ◌<◌};
+ghost use Rattle.std.specs.Prelude.{◌≡◌, eqb, ◌%◌, ◌<◌};
 ghost use Rattle.std.specs.Int.Count.{ones};
+ghost use Rattle.refusal.specs.Reasons.{fault_number};
 ghost use Rattle.packets.specs.Packet.{inverted, header_of};
-ghost use Rattle.packets.specs.Fault.{parity_wrong, fault_where};
+ghost use Rattle.packets.specs.Fault.{fault_where};
 
 use crate::due::What;
-use refusal::Number;
+use refusal::Reason;
 use words::{MOST_WORD, reserved};
 
 // Nine bits with bit 9 the inverse of bit 8.
@@ -38,41 +39,29 @@ pub(crate) fn low(word: u16) -> usize
     (word % 256) as usize
 }
 
-// The number where the test says so, and 0 otherwise.
-fn number_if(test: bool, number: u32) -> u32
-    ensures { result ≡ cond test number 0 }
+// Whether a word is the header word of its low eight bits.
+pub(crate) fn header_well(word: u16) -> bool
+    ensures { result ≡ eqb word (header_of (word % 256)) }
 {
-    if test {
-        return number;
-    }
-    0
+    word == header_word(word % 256)
 }
 
-// 15 for a word that is not the header word of its low eight bits, and otherwise the number told.
-fn parity_wrong(word: u16, otherwise: u32) -> u32
-    ensures { result ≡ parity_wrong word otherwise }
-{
-    if word == header_word(word % 256) {
-        return otherwise;
-    }
-    Number::BAD_PARITY
-}
-
-// The number of what is wrong with a word where this is due, or 0: 5 comes first, and 15 before 17.
-pub(crate) fn fault(due: What, word: u16) -> u32
-    ensures { result ≡ fault_where due word }
+// What is wrong with a word where this is due: 5 comes first, and 15 before 17.
+pub(crate) fn fault(due: What, word: u16) -> Option<Reason>
+    ensures { fault_number result ≡ fault_where due word }
 {
     if MOST_WORD < word {
-        return Number::OVER;
+        return Some(Reason::Over);
     }
     match due {
-        What::Exactly { word: exact } => number_if(word != exact, Number::NO_FILL),
-        What::Header => parity_wrong(word, 0),
-        What::Count { room } => parity_wrong(
-            word,
-            number_if(room < low(word), Number::PACKET_PAST),
-        ),
-        What::User => number_if(reserved(word), Number::RESERVED),
-        What::Checksum { word: sum } => number_if(word != sum, Number::BAD_CHECKSUM),
+        What::Exactly { word: exact } => (word != exact).then_some(Reason::NoFill),
+        What::Header => (!header_well(word)).then_some(Reason::BadParity),
+        What::Count { room } => if header_well(word) {
+            (room < low(word)).then_some(Reason::PacketPast)
+        } else {
+            Some(Reason::BadParity)
+        },
+        What::User => reserved(word).then_some(Reason::Reserved),
+        What::Checksum { word: sum } => (word != sum).then_some(Reason::BadChecksum),
     }
 }

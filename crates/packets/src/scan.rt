@@ -1,50 +1,23 @@
 // The exact scan of a space, word by word.
-ghost use Rattle.std.specs.Prelude.{◌≡◌, cond, ◌+◌, ◌%◌, ◌<◌, ◌≤◌, ltb, length};
-ghost use Rattle.packets.specs.Fault.{word_at, space_to};
+ghost use Rattle.std.specs.Prelude.{◌≡◌, length};
+ghost use Rattle.packets.specs.Fault.{word_at, space_told, space_to};
 
-use crate::Space;
-use crate::due::{due_from, ends};
+use crate::due::Holder;
 use crate::fault::fault;
+use refusal::Refused;
+use words::FillWords;
 
-// The sum of the low nine bits with one word more, k words after the start of a packet: it begins with the data identifier.
-fn sum_with(sum: u16, k: usize, word: u16) -> u16
-    requires { sum < 512 }
-    ensures { result ≡ cond (ltb k 3) 0 ((sum + word % 512) % 512) }
+// The first fault of the words from start on, or how many of them are packets.
+pub(crate) fn scan(words: &[u16], start: usize, fill: FillWords) -> Result<usize, Refused>
+    ensures { space_told result ≡ space_to (word_at words.now) start (length words.now) fill.even fill.odd }
 {
-    if k < 3 {
-        return 0;
-    }
-    (sum + word % 512) % 512
-}
-
-// The first fault of the words from start to stop: p is where the packet or the fill starts that holds the offset. It leaves at the first bad
-// offset with number and place.
-pub(crate) fn scan(words: &[u16], start: usize, stop: usize, even: u16, odd: u16) -> Space
-    requires { stop ≤ length words.now }
-    ensures { result ≡ space_to (word_at words.now) start stop even odd }
-{
-    'scan: loop {
-        let mut p = start;
-        let mut sum: u16 = 0;
-        for i in start..stop {
-            let number = fault(due_from(words, stop, even, odd, p, sum, i), words[i]);
-            if number != 0 {
-                break 'scan Space {
-                    number,
-                    place: i,
-                    packets: 0,
-                };
-            }
-            sum = sum_with(sum, i - p, words[i]);
-            if ends(words, stop, p, i + 1) {
-                p = i + 1;
-                sum = 0;
-            }
+    let mut holder = Holder { start, sum: 0 };
+    // an offset is more than the place of a word here: what holds it is asked for by it
+    for i in start..words.len() {
+        if let Some(reason) = fault(holder.due(words, fill, i), words[i]) {
+            return Err(reason.at(i));
         }
-        break 'scan Space {
-            number: 0,
-            place: 0,
-            packets: p - start,
-        };
+        holder = holder.next(words, i);
     }
+    Ok(holder.start - start)
 }

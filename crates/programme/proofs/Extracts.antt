@@ -32,8 +32,7 @@ use Rattle.reader.proofs.Judged.{accepted, answered}
 use Rattle.reader.proofs.Taken.{then_taken_is, then_refused}
 use Rattle.bytewise.specs.Bytes.{bytes_refusal, judged_bytes}
 use Rattle.bytewise.proofs.Theorems.{bytes_exact, bytes_refused_stands}
-use Rattle.v210.specs.Row.{row_length, packed_of, pack_refusal, row_after}
-use Rattle.v210.proofs.Theorems.{packed_accepted, pack_accepted_fills}
+use Rattle.v210.specs.Row.{row_length, packed_of}
 use Rattle.programme.specs.Extract.{room_refusal, extract_refusal, extracted_of, gives_row, row_of_line, row_after_line}
 
 -- ---- A part of bytes from a word on has the words of that part.
@@ -67,15 +66,6 @@ module _ (bytes : List ℕ) (a n : ℕ) (size : length bytes ≡ 2 * (a + n)) wh
       let m : k < n = omega (arith, l, count) in
       word_at_is part n part_length k m ∙ part_word k m
       ∙ sym (words_part_at k m ∙ word_at_is bytes (a + n) size (a + k) (omega arith)))
-
--- ---- Words of ten bits, as many as an active part has, are packed.
-pub words_packed : (bytes words row : List ℕ) → words ≡ words_of bytes → length bytes ≡ 2 * active_length → length row ≡ row_length
-    → ((i : ℕ) → i < active_length → get_or (words_of bytes) i 0 ≤ most_word) → row_after words row ≡ packed_of (words_of bytes)
-words_packed bytes words row is size room small =
-    let taken = (packed_accepted (words_of bytes) (words_length bytes active_length size) small).0 in
-    ap (λ (l : List ℕ). row_after l row) is
-    ∙ pack_accepted_fills (words_of bytes) row
-    (same_number (ap (pack_refusal (words_of bytes)) room ∙ taken))
 
 -- ---- With room for a row, extracting refuses and answers as the byte judge does.
 module _ (w : Walk) (bytes : List ℕ) (room : ℕ) (has_room : room ≡ row_length) where
@@ -181,9 +171,6 @@ module _ (w : Walk) (bytes : List ℕ) (size : length bytes ≡ line_bytes w) wh
         let count : n - (n - 2 * active_length) ≡ 2 * active_length = omega (arith, is, whole) in
         let start : n - 2 * active_length ≡ 2 * active_offset (system_of w.system) = omega (arith, is, whole) in
         ap₂ (λ (k m : ℕ). take k (drop m bytes)) count start
-
-    pub sliced_length : length (take (n - (n - 2 * active_length)) (drop (n - 2 * active_length) bytes)) ≡ 2 * active_length
-    sliced_length = ap length sliced ∙ part_length bytes (active_offset (system_of w.system)) active_length parts
 
     pub sliced_row : packed_of (words_of (take (n - (n - 2 * active_length)) (drop (n - 2 * active_length) bytes))) ≡ row_of_line w bytes
     unfolding row_of_line

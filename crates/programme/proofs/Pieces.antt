@@ -1,11 +1,11 @@
 -- A programme in several recordings: where one of them ends, and that the frames which it takes have room. Assumes nothing.
-use Prim.Native.Nat.{ℕ, ◌+◌, ◌-◌, ◌<◌, ◌≤◌}
+use Prim.Native.Nat.{ℕ, ◌+◌, ◌<◌, ◌≤◌}
 use mathlib.Core.Path.{◌≡◌, sym, ◌∙◌}
 use mathlib.Core.Bool.{true, false, ◌&&◌}
 use native.Mathlib.Omega.{arith}
 use lib.Dec.{ltb, eqb}
-use borrow.Author.Tests.{ltb-true, ltb-false, lt-ltb, le-ltb, eqb-true, eq-eqb, ne_eqb}
-use Rattle.refusal.proofs.Cases.{by_cond, by_test, and_true}
+use borrow.Author.Tests.{ltb-true, ltb-false, lt-ltb, eqb-true, eq-eqb}
+use Rattle.refusal.proofs.Cases.{by_cond, and_true}
 use Rattle.system.specs.declared.walk.Walk.{Walk}
 use Rattle.system.specs.Figures.{line_count, system_of}
 use Rattle.system.specs.Walk.{most_lines}
@@ -17,14 +17,6 @@ frame w = line_count (system_of w.system)
 
 module _ (w : Walk) (most : ℕ) where
   -- ---- The tests in turn.
-  pub inside_a_frame : (w.line ≡ 1 → ⊥) → ends_piece w most ≡ false
-  unfolding ends_piece
-  inside_a_frame n = simp (ne_eqb _ _ n)
-
-  pub nothing_yet : w.lines ≤ 0 → ends_piece w most ≡ false
-  unfolding ends_piece
-  nothing_yet n = by_test (eqb w.line 1) (λ t. simp (t, le-ltb 0 w.lines n)) (λ f. simp f)
-
   pub between_frames : w.line ≡ 1 → 0 < w.lines → ends_piece w most ≡ ltb most (w.lines + frame w)
   unfolding ends_piece
   between_frames a b = simp (eq-eqb _ _ a, lt-ltb 0 w.lines b)
@@ -49,10 +41,3 @@ piece_within_limit number frames =
     by_cond (λ (n : ℕ). n ≤ most_lines) (ltb (frames_lines (system_of number) frames) most_lines) _ _
     (λ t. omega (arith, ltb-true (frames_lines (system_of number) frames) most_lines t))
     (λ f. omega arith)
-
--- room that is left, and lines that would be over: the same test
-pub room_left : (most lines more : ℕ) → lines ≤ most → ltb (most - lines) more ≡ ltb most (lines + more)
-room_left most lines more l =
-    by_test (ltb (most - lines) more)
-    (λ t. t ∙ sym (lt-ltb most (lines + more) (omega (arith, l, ltb-true (most - lines) more t))))
-    (λ f. f ∙ sym (le-ltb most (lines + more) (omega (arith, l, ltb-false (most - lines) more f))))

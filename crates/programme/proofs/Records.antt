@@ -8,12 +8,17 @@ use native.Mathlib.Omega.{arith}
 use lib.Dec.{ltb, eqb}
 use lib.ListN.{length}
 use borrow.Author.Tests.{lt-ltb, ltb-true, eq-eqb, ne_eqb, eqb-false}
+use Rattle.std.specs.Prelude.{Result, Ok, Err, IsOk}
+use Rattle.std.proofs.lemmas.Bool.{false≢true}
 use Rattle.refusal.specs.declared.Refusal.{Refusal}
+use Rattle.refusal.specs.declared.Refused.{Refused}
+use Rattle.refusal.specs.Reasons.{answered}
 use Rattle.refusal.specs.Numbers.{wrong_length, over_ten, outside}
 use Rattle.refusal.specs.Answer.{none, refuse, written_by, or_else}
 use Rattle.refusal.specs.Table.{Row, when, Lowest, Keeps}
 use Rattle.refusal.proofs.Cases.{by_test, not_true, not_false}
-use Rattle.refusal.proofs.Firsts.{or_else_accepted, or_else_refused, or_else_grouped, or_else_none, same_number, length_due, written_accepted, written_refused}
+use Rattle.refusal.proofs.Firsts.{or_else_accepted, or_else_grouped, or_else_none, same_number, length_due, written_accepted, written_refused}
+use Rattle.refusal.proofs.Results.{reason_counts}
 use Rattle.refusal.proofs.Tables.{keeps_when, keeps_before, numbers_when, keeps_lowest}
 use Rattle.words.specs.Bytes.{bytes_of, pairs_refusal}
 use Rattle.words.proofs.Bytes.{pairs_accepted}
@@ -103,9 +108,6 @@ module _ (fall : ℕ) (w : Walk) (row : List ℕ) (k : Packets) where
   pub line_picture : takes_row fall w ≡ true → row_refusal fall w row k ≡ or_else (unpacked_refusal row) carried_refusal
   unfolding row_refusal
   line_picture t = ap (λ (s : Bool). or_else (cond s (unpacked_refusal row) none) carried_refusal) t
-
-  pub line_row : takes_row fall w ≡ true → ((unpacked_refusal row).number ≡ 0 → ⊥) → row_refusal fall w row k ≡ unpacked_refusal row
-  line_row t n = line_picture t ∙ or_else_refused (unpacked_refusal row) _ n
 
   pub line_samples : takes_row fall w ≡ true → (unpacked_refusal row).number ≡ 0 → row_refusal fall w row k ≡ carried_refusal
   line_samples t z = line_picture t ∙ or_else_accepted (unpacked_refusal row) _ z
@@ -204,6 +206,27 @@ module _ (fall : ℕ) (w : Walk) (row : List ℕ) (k : Packets) (d : Due) (is_du
         λ z. line_is z ∙ blank_any (due_at_walk fall w) (part_samples part) (row_samples row) k v,
       )
 
+-- a line's words are written of a part that holds its row, where it takes one
+pub part_written : (fall : ℕ) (w : Walk) (row : List ℕ) (k : Packets) (d : Due) → d ≡ due_at_walk fall w → (part words : List ℕ) → length part ≡ active_length
+    → length words ≡ line_words w → (r : Refusal) → r ≡ part_refusal d part k (length words)
+    → (after : List ℕ) → after ≡ written_by r (line_of d (part_content part k)) words
+    → none ≡ cond (takes_row fall w) (unpacked_refusal row) none → (takes_row fall w ≡ true → part ≡ unpacked_of row)
+    → (r ≡ row_refusal fall w row k) × (r.number ≡ 0 → after ≡ line_of (due_at_walk fall w) (row_content row k))
+part_written fall w row k d is_due part words long size r answer after written clear same =
+    by_test (takes_row fall w)
+    (λ t. picture_written fall w row k d is_due part words long size r answer after written t
+    (sym (same_number (clear ∙ ap (λ (s : Bool). cond s (unpacked_refusal row) none) t))) (same t))
+    (λ f. blank_written fall w row k d is_due part words long size r answer after written f)
+
+-- a result refuses nothing exactly where it is one
+pub told_ok : {A : Type 0} (r : Result A Refused) → answered r ≡ none → IsOk r
+told_ok (Ok x) e = refl
+told_ok (Err refused) e = absurd (reason_counts refused.reason (same_number e))
+
+pub ok_number : {A : Type 0} (r : Result A Refused) → IsOk r → (answered r).number ≡ 0
+ok_number (Ok x) i = refl
+ok_number (Err refused) i = absurd (false≢true i)
+
 -- ---- Nothing refuses before the line is to carry anything.
 pub stands_accepted : (fall : ℕ) (w : Walk) (room : ℕ) → (walk_refusal w).number ≡ 0 → is_fall (system_of w.system) fall ≡ true → room ≡ line_bytes w
     → (record_standing fall w room).number ≡ 0
@@ -233,10 +256,6 @@ module _ (fall : ℕ) (w : Walk) (row : List ℕ) (k : Packets) (room : ℕ) whe
   abbrev standing : Refusal
   standing = record_standing fall w room
 
-  pub record_standing_is : (standing.number ≡ 0 → ⊥) → record_refusal fall w row k room ≡ standing
-  unfolding record_refusal
-  record_standing_is n = or_else_refused standing _ n
-
   pub record_row : standing.number ≡ 0 → record_refusal fall w row k room ≡ row_refusal fall w row k
   unfolding record_refusal
   record_row z = or_else_accepted standing _ z
@@ -259,28 +278,33 @@ module _ (fall : ℕ) (w : Walk) (row : List ℕ) (k : Packets) (room : ℕ) whe
       ap (λ (next : Walk). record { number = 0; place = 0; report = clean_report; walk = next; packets = ready_counts k }) (moved_advanced w (due_at_walk fall w) clean_report (accepted_good w stands))
       ∙ sym (recorded_accepted z)
 
+  pub recorded_moved : none ≡ record_refusal fall w row k room → moved_at w (due_at_walk fall w) clean_report (ready_counts k) ≡ recorded_of fall w row k room
+  unfolding record_refusal
+  recorded_moved e =
+      let stood = accepted_stands fall w room (or_else_none standing _ (same_number (sym e))).0 in
+      moved_recorded stood.walk (same_number (sym e))
+
 -- ---- The line's bytes afterwards.
 module _ (fall : ℕ) (w : Walk) (row : List ℕ) (k : Packets) (held : List ℕ) where
   pub bytes_refused : ((record_refusal fall w row k (length held)).number ≡ 0 → ⊥) → line_bytes_after fall w row k held ≡ held
   unfolding line_bytes_after
   bytes_refused n = written_refused (record_refusal fall w row k (length held)) _ held n
 
-  pub bytes_refused_as : (r : Refusal) → record_refusal fall w row k (length held) ≡ r → (r.number ≡ 0 → ⊥) → line_bytes_after fall w row k held ≡ held
-  bytes_refused_as r e n = bytes_refused (λ z. n (same_number (sym e) ∙ z))
-
   pub bytes_accepted : (record_refusal fall w row k (length held)).number ≡ 0 → line_bytes_after fall w row k held ≡ line_bytes_of fall w row k
   unfolding line_bytes_after
   bytes_accepted e = written_accepted (record_refusal fall w row k (length held)) _ held e
 
--- a line's words as bytes, where there is room for them
-pub line_bytes_filled : (fall : ℕ) (w : Walk) (row : List ℕ) (k : Packets) (held words after : List ℕ) (r : Refusal) → length held ≡ line_bytes w
-    → words ≡ line_of (due_at_walk fall w) (row_content row k) → r ≡ pairs_refusal (length held) (length words) → after ≡ written_by r (bytes_of words) held
-    → (record_refusal fall w row k (length held)).number ≡ 0 → after ≡ line_bytes_after fall w row k held
+-- a line's words as bytes, where nothing refuses
+pub bytes_written : (fall : ℕ) (w : Walk) (row : List ℕ) (k : Packets) (held words : List ℕ) → none ≡ record_standing fall w (length held)
+    → none ≡ row_refusal fall w row k → words ≡ line_of (due_at_walk fall w) (row_content row k)
+    → (r : Refusal) → r ≡ pairs_refusal (length held) (length words) → (after : List ℕ) → after ≡ written_by r (bytes_of words) held
+    → (r ≡ record_refusal fall w row k (length held)) × (after ≡ line_bytes_after fall w row k held)
 unfolding line_bytes_of
-line_bytes_filled fall w row k held words after r size is answer filled z =
+bytes_written fall w row k held words stands clear is r answer after filled =
+    let refused = record_row fall w row k (length held) (sym (same_number stands)) ∙ sym clear in
     let words_long = ap length is ∙ line_words_are fall w (row_content row k) in
-    let twice = size ∙ ap (λ (n : ℕ). 2 * n) (sym words_long) in
-    filled
-    ∙ written_accepted r (bytes_of words) held (same_number (answer ∙ pairs_accepted (length held) (length words) twice))
-    ∙ ap bytes_of is
-    ∙ sym (bytes_accepted fall w row k held z)
+    let size = (accepted_stands fall w (length held) (sym (same_number stands))).size in
+    let told = answer ∙ pairs_accepted (length held) (length words) (size ∙ ap (λ (n : ℕ). 2 * n) (sym words_long)) in (
+      told ∙ sym refused,
+      filled ∙ written_accepted r (bytes_of words) held (same_number told) ∙ ap bytes_of is ∙ sym (bytes_accepted fall w row k held (same_number refused)),
+    )

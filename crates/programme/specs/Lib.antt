@@ -3,3 +3,4 @@ pub mod Extract
 pub mod Refusals
 pub mod Tape
 pub mod Extraction
+pub mod Passes

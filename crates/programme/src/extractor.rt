@@ -9,10 +9,11 @@ ghost use Rattle.programme.specs.Extraction.{extraction_of, row_after_next};
 
 use confirmation::Run;
 use line::ACTIVE_LENGTH;
-use refusal::{Number, Refusal};
+use refusal::{Reason, Refusal};
 use system::{Judgement, PacketWords, Walk};
 
-// A run after a line's bytes, whether they gave a row, and how many of their words are packets.
+// A run after a line's bytes, whether they gave a row, and how many of their words are packets. A flag, and no Option, since extraction_of
+// counts packets of lines that give none.
 #[derive(Clone, Copy)]
 pub struct Extraction {
     pub run: Run,
@@ -20,24 +21,15 @@ pub struct Extraction {
     pub packets: PacketWords,
 }
 
-// Packs an active part's bytes into a row, by way of room for its words.
-fn pack_in(active: &[u8], part: &mut [u16], row: &mut [u8])
-    requires active_len { (length active.now ≡ 2 * active_length) × (length part.old ≡ active_length) × (length row.old ≡ row_length) }
-    requires by_index { (i : ℕ) → i < active_length → get_or (words_of active.now) i 0 ≤ most_word }
-    ensures { row.new ≡ packed_of (words_of active.now) }
-{
-    words::to_words(active, part);
-    v210::pack(part, row);
-}
-
-// The same, with room of its own.
+// Packs an active part's bytes into a row.
 fn pack_active(active: &[u8], row: &mut [u8])
     requires active_len { (length active.now ≡ 2 * active_length) × (length row.old ≡ row_length) }
     requires by_index { (i : ℕ) → i < active_length → get_or (words_of active.now) i 0 ≤ most_word }
     ensures { row.new ≡ packed_of (words_of active.now) }
 {
     let mut part = [0u16; ACTIVE_LENGTH];
-    pack_in(active, &mut part, row);
+    words::to_words(active, &mut part).unwrap();
+    v210::pack(&part, row).unwrap();
 }
 
 // Extracts the line that a walk awaits from its bytes: judges it, and where it is accepted and its V is 0, packs its active part into the
@@ -51,20 +43,12 @@ pub fn extract(walk: Walk, bytes: &[u8], row: &mut [u8]) -> Judgement
         return judgement;
     }
     if row.len() != v210::ROW_LENGTH {
-        return Judgement::refused(
-            walk,
-            Refusal {
-                number: Number::WRONG_LENGTH,
-                place: 1,
-            },
-        );
+        return Judgement::refused(walk, Refusal::from(Reason::WrongLength.at(1)));
     }
-    if !gives_row(walk, bytes) {
-        return judgement;
+    if gives_row(walk, bytes) {
+        let size = walk.line_bytes();
+        pack_active(&bytes[size - 2 * ACTIVE_LENGTH..size], row);
     }
-    let size = walk.line_bytes();
-    let start = size - 2 * ACTIVE_LENGTH;
-    pack_active(&bytes[start..size], row);
     judgement
 }
 
@@ -73,12 +57,12 @@ fn gives_row(walk: Walk, bytes: &[u8]) -> bool
     requires { 8 ≤ length bytes.now }
     ensures { result ≡ gives_row walk bytes.now }
 {
-    let due = walk.due(words::word_of(bytes[6], bytes[7]));
-    !due.v
+    !walk.due(words::word_of(bytes[6], bytes[7])).v
 }
 
 // Extracting as a run in steps: the run after these bytes, a line's or what is left at the end, as its next line, whether they gave the row, and
 // the packets in them. A run that has ended stays as it is.
+#[tactic(auto, unfolding(crate::specs::Extraction::extraction_of, crate::specs::Extraction::row_after_next))]
 pub fn extract_next(run: Run, bytes: &[u8], row: &mut [u8]) -> Extraction
     ensures answer { result ≡ extraction_of run bytes.now (length row.old) }
     ensures row { row.new ≡ row_after_next run bytes.now row.old }
@@ -91,25 +75,9 @@ pub fn extract_next(run: Run, bytes: &[u8], row: &mut [u8]) -> Extraction
         };
     }
     let judgement = extract(run.walk, bytes, row);
-    let walk = judgement.walk;
-    let next = Run {
-        system: run.system,
-        start: run.start,
-        walk,
-        number: judgement.number,
-        place: judgement.place,
-    };
-    let packets = judgement.packets;
-    if judgement.number != 0 {
-        return Extraction {
-            run: next,
-            gives: false,
-            packets,
-        };
-    }
     Extraction {
-        run: next,
-        gives: gives_row(run.walk, bytes),
-        packets,
+        run: run.judged(judgement),
+        gives: judgement.number == 0 && gives_row(run.walk, bytes),
+        packets: judgement.packets,
     }
 }

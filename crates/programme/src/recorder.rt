@@ -1,104 +1,81 @@
 // Recording a line: a row's samples, or fill, and packets as the line's bytes.
-ghost use Rattle.std.specs.Prelude.{◌≡◌, true, ◌*◌, length};
-ghost use Rattle.system.specs.Figures.{system_of, is_fall};
-ghost use Rattle.system.specs.Walk.{walk_refusal, line_words};
+ghost use Rattle.std.specs.Prelude.{◌≡◌, true, cond, length, IsOk};
+ghost use Rattle.refusal.specs.Answer.{none};
+ghost use Rattle.refusal.specs.Reasons.{answered};
+ghost use Rattle.system.specs.Walk.{line_words};
 ghost use Rattle.line.specs.Samples.{active_length, line_of};
-ghost use Rattle.programme.specs.Record.{due_at_walk, row_content, row_refusal, record_standing, recorded_of, line_bytes_after};
+ghost use Rattle.v210.specs.Row.{unpacked_of};
+ghost use Rattle.programme.specs.Passes.{packets_in};
+ghost use Rattle.programme.specs.Record.{due_at_walk, takes_row, row_content, unpacked_refusal, row_refusal, record_standing, record_refusal, recorded_of, line_bytes_after};
 
-use crate::due_at;
+use crate::{due_at, takes_row};
 use line::ACTIVE_LENGTH;
-use refusal::{Number, Refusal};
-use system::{Judgement, PacketWords, System625, Walk};
-use timing::{CodeReport, Report};
+use refusal::{Reason, Refusal, Refused};
+use system::{Figures, Judgement, PacketWords, System625, Walk};
+use timing::Report;
 
-// Writes the line that a walk awaits into words, by way of room for its active part: on V = 0 lines the row's, which is 3 at 1 where it is
-// short, then 5 at its first word with a spare bit set, and otherwise fill; and ready packet words.
-fn write_row(
-    walk: Walk,
-    fall: u32,
-    row: &[u8],
-    between: &[u16],
-    active: &[u16],
-    part: &mut [u16],
-    words: &mut [u16],
-) -> Refusal
-    requires { (length part.old ≡ active_length) × (length words.old ≡ line_words walk) }
-    ensures answer { result ≡ row_refusal fall walk row.now (record { between = between.now; active = active.now }) }
-    ensures words { result.number ≡ 0 → words.new ≡ line_of (due_at_walk fall walk) (row_content row.now (record { between = between.now; active = active.now })) }
+// What a line is to carry: a row, and ready packet words for each space.
+#[derive(Clone, Copy)]
+pub(crate) struct Given<'a> {
+    row: &'a [u8],
+    between: &'a [u16],
+    active: &'a [u16],
+}
+
+// The active part of a line that takes a row: 3 at 1 where the row is short, then 5 at its first word with a spare bit set.
+#[tactic(auto, using(crate::proofs::Records::unpacked_short, crate::proofs::Records::unpack_row))]
+fn take_row(walk: Walk, fall: u32, row: &[u8], part: &mut [u16]) -> Result<(), Refused>
+    requires { length part.old ≡ active_length }
+    ensures answer { answered result ≡ cond (takes_row fall walk) (unpacked_refusal row.now) none }
+    ensures part { IsOk result → takes_row fall walk ≡ true → part.new ≡ unpacked_of row.now }
 {
-    let due = due_at(walk, fall);
-    if due.v {
-        return writer::write_part(due, part, between, active, words);
+    if !takes_row(walk, fall) {
+        return Ok(());
     }
     if row.len() != v210::ROW_LENGTH {
-        return Refusal {
-            number: Number::WRONG_LENGTH,
-            place: 1,
-        };
+        return Err(Reason::WrongLength.at(1));
     }
-    let refusal = v210::unpack(row, part);
-    if refusal.number != 0 {
-        return refusal;
-    }
-    writer::write_part(due, part, between, active, words)
+    v210::unpack(row, part)
 }
 
-// The same, with room of its own for the active part.
-fn write_line(
-    walk: Walk,
-    fall: u32,
-    row: &[u8],
-    between: &[u16],
-    active: &[u16],
-    words: &mut [u16],
-) -> Refusal
+// Writes the line that a walk awaits into words: of the row's samples where its V is 0 and otherwise of fill, and of ready packet words.
+#[tactic(auto, using(refusal::proofs::Results::err_first), unfolding(crate::specs::Record::row_refusal))]
+fn write_words(walk: Walk, fall: u32, given: &Given, words: &mut [u16]) -> Result<(), Refused>
     requires { length words.old ≡ line_words walk }
-    ensures answer { result ≡ row_refusal fall walk row.now (record { between = between.now; active = active.now }) }
-    ensures words { result.number ≡ 0 → words.new ≡ line_of (due_at_walk fall walk) (row_content row.now (record { between = between.now; active = active.now })) }
+    ensures answer { answered result ≡ row_refusal fall walk given.now.row.now (packets_in given.now) }
+    ensures words { IsOk result → words.new ≡ line_of (due_at_walk fall walk) (row_content given.now.row.now (packets_in given.now)) }
 {
     let mut part = [0u16; ACTIVE_LENGTH];
-    write_row(walk, fall, row, between, active, &mut part, words)
-}
-
-// Records the line that a walk awaits, by way of room for its words.
-fn record_in(
-    walk: Walk,
-    fall: u32,
-    row: &[u8],
-    between: &[u16],
-    active: &[u16],
-    words: &mut [u16],
-    line: &mut [u8],
-) -> Judgement
-    requires { ((walk_refusal walk).number ≡ 0) × (is_fall (system_of walk.system) fall ≡ true) × (length words.old ≡ line_words walk) × (length line.old ≡ 2 * length words.old) }
-    ensures answer { result ≡ recorded_of fall walk row.now (record { between = between.now; active = active.now }) (length line.old) }
-    ensures line { line.new ≡ line_bytes_after fall walk row.now (record { between = between.now; active = active.now }) line.old }
-{
-    let refusal = write_line(walk, fall, row, between, active, words);
-    if refusal.number != 0 {
-        return Judgement::refused(walk, refusal);
-    }
-    words::to_bytes(words, line);
-    let clean = Report {
-        eav: CodeReport::Clean,
-        sav: CodeReport::Clean,
-    };
-    let packets = PacketWords {
-        between: between.len(),
-        active: active.len(),
-    };
-    Judgement::accepted(walk, due_at(walk, fall), clean, packets)
+    take_row(walk, fall, given.row, &mut part)?;
+    writer::write_part(
+        due_at(walk, fall),
+        &part,
+        given.between,
+        given.active,
+        words,
+    )
 }
 
 // What refuses before anything is to be carried: 1, 2, a fall line outside 10 to 20 among it, 4, and 3 at 0 for the line's bytes.
-fn standing(walk: Walk, fall: u32, room: usize) -> Refusal
-    ensures { result ≡ record_standing fall walk room }
+#[tactic(auto, using(refusal::proofs::Results::err_first, refusal::proofs::Results::ok_first), unfolding(crate::specs::Record::record_standing))]
+fn standing(walk: Walk, fall: u32, room: usize) -> Result<(), Refused>
+    ensures { answered result ≡ record_standing fall walk room }
 {
-    let named = system::written_refusal(walk.system, walk.line, fall);
-    if named.number != 0 {
-        return named;
-    }
+    system::written_refusal(walk.system, walk.line, fall)?;
     walk.standing(room, walk.line_bytes())
+}
+
+// Writes that line as bytes.
+#[tactic(auto, using(refusal::proofs::Results::err_first, refusal::proofs::Results::ok_first, refusal::proofs::Results::err_stays), unfolding(crate::specs::Record::record_refusal, crate::specs::Record::line_bytes_after))]
+fn write_bytes(walk: Walk, fall: u32, given: &Given, line: &mut [u8]) -> Result<(), Refused>
+    ensures answer { answered result ≡ record_refusal fall walk given.now.row.now (packets_in given.now) (length line.old) }
+    ensures line { line.new ≡ line_bytes_after fall walk given.now.row.now (packets_in given.now) line.old }
+{
+    standing(walk, fall, line.len())?;
+    let mut room = [0u16; System625::LINE_LENGTH];
+    let words = &mut room[..walk.line_words()];
+    write_words(walk, fall, given, words)?;
+    words::to_bytes(words, line)
 }
 
 // Records the line that a walk awaits as bytes, where V of the first field falls at this line: a V = 0 line of the row's samples, a V = 1 line
@@ -116,19 +93,19 @@ pub fn record(
     ensures answer { result ≡ recorded_of fall walk row.now (record { between = between.now; active = active.now }) (length line.old) }
     ensures line { line.new ≡ line_bytes_after fall walk row.now (record { between = between.now; active = active.now }) line.old }
 {
-    let refusal = standing(walk, fall, line.len());
-    if refusal.number != 0 {
-        return Judgement::refused(walk, refusal);
-    }
-    let length = walk.line_words();
-    let mut words = [0u16; System625::LINE_LENGTH];
-    record_in(
-        walk,
-        fall,
+    let given = Given {
         row,
         between,
         active,
-        &mut words[0..length],
-        line,
-    )
+    };
+    match write_bytes(walk, fall, &given, line) {
+        Ok(()) => {
+            let packets = PacketWords {
+                between: between.len(),
+                active: active.len(),
+            };
+            Judgement::accepted(walk, due_at(walk, fall), Report::CLEAN, packets)
+        },
+        Err(refused) => Judgement::refused(walk, Refusal::from(refused)),
+    }
 }

@@ -1,6 +1,6 @@
 -- Laws of the judgement, for all who judge a line at a walk: each refusal in its turn, what is known of a line that none refuses, and that the
 -- answer keeps to its table; and of the active part and the packets that are lent of it. Assumes nothing.
-use Prim.Native.Nat.{ℕ, ◌+◌, ◌≤◌}
+use Prim.Native.Nat.{ℕ, ◌+◌, ◌-◌, ◌≤◌}
 use mathlib.Core.Path.{◌≡◌, refl, sym, ap, ◌∙◌}
 use mathlib.Core.List.{List, []}
 use native.Mathlib.Omega.{arith}
@@ -11,7 +11,7 @@ use Rattle.refusal.specs.declared.Refusal.{Refusal}
 use Rattle.refusal.specs.Answer.{none}
 use Rattle.refusal.specs.Table.{Decides, Keeps}
 use Rattle.refusal.proofs.Cases.{by_test}
-use Rattle.refusal.proofs.Firsts.{or_else_accepted, or_else_refused, or_else_none}
+use Rattle.refusal.proofs.Firsts.{or_else_accepted, or_else_refused, or_else_none, same_number}
 use Rattle.refusal.proofs.Tables.{alone, keeps_before, keeps_last, decides_before}
 use Rattle.packets.specs.Fault.{word_at}
 use Rattle.system.specs.declared.walk.Walk.{Walk}
@@ -159,3 +159,31 @@ module _ (w : Walk) (words : List ℕ) where
     pub active_packets_fit : active_offset (system_of w.system) + (judged_of w words).packets.active ≤ length words
     active_packets_fit =
         rw counts_judged (omega (arith, in_line, (counts_within (due_in w words) (word_at words)).1, ap active_offset (due_system w (get_or words 3 0))))
+
+-- ---- what is lent of a line that was accepted, with its judgement
+-- as a slice has it
+slice_is : (l : List ℕ) (start n : ℕ) → take (start + n - start) (drop start l) ≡ take n (drop start l)
+slice_is l start n = ap (λ (k : ℕ). take k (drop start l)) (omega arith)
+
+module _ (w : Walk) (words : List ℕ) (start : ℕ) (is-start : start ≡ active_offset (system_of w.system)) (stood : none ≡ judge_refusal w words) where
+  pub active_lent_fits : start + active_length ≤ length words
+  active_lent_fits = rw is-start (active_fits w words (sym (same_number stood)))
+
+  pub active_lent : take (start + active_length - start) (drop start words) ≡ active_of w words
+  active_lent = slice_is words start active_length ∙ rw is-start (sym (active_accepted w words (sym (same_number stood))))
+
+module _ (w : Walk) (words : List ℕ) (j : Judgement) (is-judged : j ≡ judged_of w words) (stood : none ≡ judge_refusal w words) where
+  pub between_lent_fits : between_offset + j.packets.between ≤ length words
+  between_lent_fits = rw is-judged (between_packets_fit w words (sym (same_number stood)))
+
+  pub between_lent : take (between_offset + j.packets.between - between_offset) (drop between_offset words) ≡ between_packets_of w words
+  between_lent =
+      slice_is words between_offset j.packets.between ∙ rw is-judged (sym (between_packets_accepted w words (sym (same_number stood))))
+
+  module _ (start : ℕ) (is-start : start ≡ active_offset (system_of w.system)) where
+    pub active_packets_lent_fits : start + j.packets.active ≤ length words
+    active_packets_lent_fits = rw (is-start, is-judged) (active_packets_fit w words (sym (same_number stood)))
+
+    pub active_packets_lent : take (start + j.packets.active - start) (drop start words) ≡ active_packets_of w words
+    active_packets_lent =
+        slice_is words start j.packets.active ∙ rw (is-start, is-judged) (sym (active_packets_accepted w words (sym (same_number stood))))

@@ -1,7 +1,7 @@
 -- The parts of a line, from 0 to 3: where they start, which are spaces and how these are judged, and what is wrong at their offsets, so that a
 -- scan that goes part by part finds the lowest fault. Assumes nothing.
 use Prim.Native.Nat.{ℕ, zero, suc, ◌+◌, ◌-◌, ◌<◌, ◌≤◌}
-use mathlib.Core.Path.{◌≡◌, refl, sym, ap, ap₂, ◌∙◌}
+use mathlib.Core.Path.{◌≡◌, refl, sym, ap, ◌∙◌}
 use mathlib.Core.Bool.{true, false, cond, true≢false}
 use mathlib.Core.List.{List}
 use native.Mathlib.Omega.{arith}
@@ -9,12 +9,15 @@ use lib.Dec.{leb, eqb}
 use lib.ListN.{length}
 use borrow.Author.Tests.{le-leb, leb-true, leb-false}
 use Rattle.refusal.specs.declared.Refusal.{Refusal}
+use Rattle.std.specs.Prelude.{Some, Result, Ok, Err}
+use Rattle.std.specs.Result.{result_ok, result_unwrap_or}
+use Rattle.std.proofs.lemmas.Option.{same_Some, none-some}
+use Rattle.refusal.specs.declared.Refused.{Refused}
 use Rattle.refusal.specs.Answer.{none, first_from}
 use Rattle.refusal.proofs.Cases.{by_cond, by_test}
 use Rattle.refusal.proofs.Firsts.{same_number}
-use Rattle.packets.specs.declared.Space.{Space}
 use Rattle.packets.specs.Due.{holder_at}
-use Rattle.packets.specs.Fault.{word_at, space_to, space_of}
+use Rattle.packets.specs.Fault.{space_told, word_at, space_to, space_of}
 use Rattle.packets.specs.Fault as space
 use Rattle.packets.proofs.Froms.{from_later, from_same}
 use Rattle.packets.proofs.Walks.{space_back}
@@ -24,7 +27,7 @@ use Rattle.system.specs.declared.due.Due.{Due}
 use Rattle.system.specs.Figures.{line_length, sav_offset, active_offset}
 use Rattle.system.proofs.Laws.{line_is_parts, sav_low}
 use Rattle.line.specs.Offsets.{due_at}
-use Rattle.line.specs.Fault.{fault_where, between_offset, fault_of, fault_at, word_refusal, between_space, active_space, packets_in}
+use Rattle.line.specs.Fault.{fault_where, between_offset, fault_of, fault_at, word_refusal, active_space, packets_in}
 use Rattle.line.proofs.Spaces.{eav_apart, sav_apart, active_space_is, fault_apart, fault_between, fault_active}
 use Rattle.reader.specs.Passes.{part_start, part_is_space, part_space, words_start}
 
@@ -57,18 +60,14 @@ pub space_to_end : (words : List ℕ) (start end even odd : ℕ) → end ≤ len
     → space_of words start end even odd ≡ space_to (word_at words) start end even odd
 space_to_end words start end even odd l = simp (le-leb _ _ l)
 
--- so are the two of a line that has its words
-module _ (d : Due) (words : List ℕ) (at : ℕ) (s : Space) (whole : length words ≡ line_length d.system) where
-  pub between_judged : at ≡ sav_offset d.system → s ≡ space_of words between_offset at d.fill.even d.fill.odd → s ≡ between_space d (word_at words)
-  between_judged is-sav e =
-      e ∙ space_to_end words between_offset at d.fill.even d.fill.odd (omega (arith, line_is_parts d.system))
-      ∙ ap (λ (n : ℕ). space_to (word_at words) between_offset n d.fill.even d.fill.odd) is-sav
+-- what the result of judging a space tells
+pub told_packets : (r : Result ℕ Refused) → result_unwrap_or r 0 ≡ (space_told r).packets
+told_packets (Ok n) = refl
+told_packets (Err refused) = refl
 
-  pub active_judged : at ≡ active_offset d.system → s ≡ space_of words at (length words) d.fill.even d.fill.odd
-      → s ≡ active_space d (word_at words)
-  active_judged is-active e =
-      e ∙ space_to_end words at (length words) d.fill.even d.fill.odd (omega arith)
-      ∙ ap₂ (λ (m n : ℕ). space_to (word_at words) m n d.fill.even d.fill.odd) is-active whole
+pub ok_told : (r : Result ℕ Refused) (n : ℕ) → result_ok r ≡ Some n → space_told r ≡ record { number = 0; place = 0; packets = n }
+ok_told (Ok m) n e = ap (λ (k : ℕ). record { number = 0; place = 0; packets = k }) (same_Some m n e)
+ok_told (Err refused) n e = absurd (none-some n e)
 
 -- the packets of a space fit it
 packets_fit : (word : ℕ → ℕ) (start stop even odd : ℕ) → (space_to word start stop even odd).packets ≤ stop - start

@@ -5,36 +5,28 @@ mod fault;
 mod pass;
 mod samples;
 mod scan;
+mod whole;
 
-ghost use Rattle.std.specs.Prelude.{◌≡◌, length};
-ghost use Rattle.timing.specs.Code.{correction_of};
-ghost use Rattle.timing.specs.Report.{code_report_of};
-ghost use Rattle.system.specs.Figures.{line_length};
-ghost use Rattle.reader.specs.Judge.{report_of, judged_of, active_of, between_packets_of, active_packets_of};
+ghost use Rattle.std.specs.Prelude.{◌≡◌, IfOk};
+ghost use Rattle.refusal.specs.Reasons.{answered};
+ghost use Rattle.reader.specs.Judge.{judge_refusal, judged_of, active_of, between_packets_of, active_packets_of};
 
-use crate::pass::first_fault;
+use crate::whole::Whole;
 use line::{ACTIVE_LENGTH, BETWEEN_OFFSET};
+use refusal::{Refusal, Refused};
 pub use samples::take;
-use system::{Due, Judgement, Walk};
-use timing::{CodeReport, Report};
+use system::{Judgement, Walk, system_of};
 
-// What is told of a code with this fourth word, where these F, V, H are due.
-fn code_told(word: u16, fvh: u32) -> CodeReport
-    ensures { result ≡ code_report_of (correction_of word) }
+// The judgement of the line that a walk awaits, or what refuses it.
+fn accepted(walk: Walk, words: &[u16]) -> Result<Judgement, Refused>
+    ensures answer { answered result ≡ judge_refusal walk words.now }
+    ensures judgement { IfOk result (λ judgement. judgement ≡ judged_of walk words.now) }
 {
-    timing::code_report(timing::correct_expecting(word, fvh))
-}
-
-// What is told of the two codes of a line.
-fn report(d: Due, words: &[u16]) -> Report
-    requires { length words.now ≡ line_length d.system }
-    ensures { result ≡ report_of d words.now }
-{
-    let system = d.system;
-    let fourth = system.sav_offset() + 3;
-    let eav = code_told(words[3], d.flags(true));
-    let sav = code_told(words[fourth], d.flags(false));
-    Report { eav, sav }
+    walk.standing(words.len(), walk.line_words())?;
+    let due = walk.due(words[3]);
+    let line = Whole { due, words };
+    let packets = line.packets()?;
+    Ok(Judgement::accepted(walk, due, line.report(), packets))
 }
 
 // Judges the line that a walk awaits: 1, 2, 4, 3 at place 0, then the lowest offset with a fault; and tells how many words of each space are
@@ -42,30 +34,21 @@ fn report(d: Due, words: &[u16]) -> Report
 pub fn judge(walk: Walk, words: &[u16]) -> Judgement
     ensures { result ≡ judged_of walk words.now }
 {
-    let standing = walk.standing(words.len(), walk.line_words());
-    if standing.number != 0 {
-        return Judgement::refused(walk, standing);
+    match accepted(walk, words) {
+        Ok(judgement) => judgement,
+        Err(refused) => Judgement::refused(walk, Refusal::from(refused)),
     }
-    let due = walk.due(words[3]);
-    let search = first_fault(due, words);
-    let refusal = search.refusal;
-    if refusal.number != 0 {
-        return Judgement::refused(walk, refusal);
-    }
-    let packets = search.packets;
-    Judgement::accepted(walk, due, report(due, words), packets)
 }
 
 // The active part of the line that a walk awaits: a part of the caller's own slice, empty where judging refuses the line.
 pub fn active(walk: Walk, words: &[u16]) -> &[u16]
     ensures { result.now ≡ active_of walk words.now }
 {
-    if judge(walk, words).number != 0 {
-        return &words[0..0];
-    }
-    let start = system::system_of(walk.system).active_offset();
-    let end = start + ACTIVE_LENGTH;
-    &words[start..end]
+    let Ok(_) = accepted(walk, words) else {
+        return &words[..0];
+    };
+    let start = system_of(walk.system).active_offset();
+    &words[start..start + ACTIVE_LENGTH]
 }
 
 // The packets in the space between EAV and SAV of the line that a walk awaits: the part of the caller's own slice in which they stand, empty
@@ -73,25 +56,19 @@ pub fn active(walk: Walk, words: &[u16]) -> &[u16]
 pub fn between_packets(walk: Walk, words: &[u16]) -> &[u16]
     ensures { result.now ≡ between_packets_of walk words.now }
 {
-    let judgement = judge(walk, words);
-    if judgement.number != 0 {
-        return &words[0..0];
-    }
-    let packets = judgement.packets;
-    let end = BETWEEN_OFFSET + packets.between;
-    &words[BETWEEN_OFFSET..end]
+    let Ok(judgement) = accepted(walk, words) else {
+        return &words[..0];
+    };
+    &words[BETWEEN_OFFSET..BETWEEN_OFFSET + judgement.packets.between]
 }
 
 // The packets in its active part, where V is 1.
 pub fn active_packets(walk: Walk, words: &[u16]) -> &[u16]
     ensures { result.now ≡ active_packets_of walk words.now }
 {
-    let judgement = judge(walk, words);
-    if judgement.number != 0 {
-        return &words[0..0];
-    }
-    let packets = judgement.packets;
-    let start = system::system_of(walk.system).active_offset();
-    let end = start + packets.active;
-    &words[start..end]
+    let Ok(judgement) = accepted(walk, words) else {
+        return &words[..0];
+    };
+    let start = system_of(walk.system).active_offset();
+    &words[start..start + judgement.packets.active]
 }

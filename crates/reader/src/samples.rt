@@ -1,14 +1,12 @@
 // Taking the samples of a line that judges well.
 ghost use Rattle.std.specs.Prelude.{◌≡◌, ◌+◌, ◌≤◌, length};
-ghost use Rattle.refusal.specs.Answer.{or_else};
-ghost use Rattle.line.specs.Lengths.{buffer_refusal};
+ghost use Rattle.refusal.specs.Reasons.{answered};
 ghost use Rattle.line.specs.Samples.{active_length, y_length, c_length, ys_from, cbs_from, crs_from};
-ghost use Rattle.reader.specs.Judge.{judge_refusal};
 ghost use Rattle.reader.specs.Take.{take_refusal, taken_of};
 
-use crate::judge;
-use line::ACTIVE_LENGTH;
-use refusal::Refusal;
+use crate::accepted;
+use line::{ACTIVE_LENGTH, buffer_refusal};
+use refusal::Refused;
 use system::Walk;
 
 // The groups CB, Y, CR, Y of an active part.
@@ -30,38 +28,25 @@ fn copy_samples(words: &[u16], active: usize, y: &mut [u16], cb: &mut [u16], cr:
     }
 }
 
-// What refuses taking: the judge's own refusal, then 3 at the lowest place of buffers with these lengths.
-fn take_refusal(walk: Walk, words: &[u16], y: usize, cb: usize, cr: usize) -> Refusal
-    ensures { result ≡ or_else (judge_refusal walk words.now) (buffer_refusal y cb cr) }
-{
-    let judgement = judge(walk, words);
-    let buffers = line::buffer_refusal(y, cb, cr);
-    if judgement.number != 0 {
-        return Refusal {
-            number: judgement.number,
-            place: judgement.place,
-        };
-    }
-    buffers
-}
-
 // Takes the samples of the line that a walk awaits, where it judges well, the buffers have their lengths and its V is 0. Refused as judging
 // refuses it, then with 3 for a buffer's length; the walk then stands, though judging may have accepted.
-pub fn take(walk: Walk, words: &[u16], y: &mut [u16], cb: &mut [u16], cr: &mut [u16]) -> Refusal
-    ensures answer { result ≡ take_refusal walk words.now (record { y = y.old; cb = cb.old; cr = cr.old }) }
+pub fn take(
+    walk: Walk,
+    words: &[u16],
+    y: &mut [u16],
+    cb: &mut [u16],
+    cr: &mut [u16],
+) -> Result<(), Refused>
+    ensures answer { answered result ≡ take_refusal walk words.now (record { y = y.old; cb = cb.old; cr = cr.old }) }
     ensures ys { y.new ≡ (taken_of walk words.now (record { y = y.old; cb = cb.old; cr = cr.old })).y }
     ensures cbs { cb.new ≡ (taken_of walk words.now (record { y = y.old; cb = cb.old; cr = cr.old })).cb }
     ensures crs { cr.new ≡ (taken_of walk words.now (record { y = y.old; cb = cb.old; cr = cr.old })).cr }
 {
-    let refusal = take_refusal(walk, words, y.len(), cb.len(), cr.len());
-    if refusal.number != 0 {
-        return refusal;
-    }
+    accepted(walk, words)?;
+    buffer_refusal(y.len(), cb.len(), cr.len())?;
     let due = walk.due(words[3]);
-    if due.v {
-        return refusal;
+    if !due.v {
+        copy_samples(words, due.system.active_offset(), y, cb, cr);
     }
-    let system = due.system;
-    copy_samples(words, system.active_offset(), y, cb, cr);
-    refusal
+    Ok(())
 }

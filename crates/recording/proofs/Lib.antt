@@ -17,3 +17,4 @@ pub mod Falling
 pub mod TapedLines
 pub mod TakenRows
 pub mod Filters
+pub mod LastArm

@@ -3,7 +3,7 @@ use cases::{
     MOST_BYTES, MOST_WORDS, Numbers, WALK, after_bytes, after_words, part, put_bytes, put_numbers,
     put_words, taken_bytes, taken_words, walk,
 };
-use refusal::Refusal;
+use refusal::Refused;
 
 // bytewise::judge.
 pub(crate) fn judge(payload: &[u8]) -> Numbers {
@@ -15,36 +15,35 @@ pub(crate) fn judge(payload: &[u8]) -> Numbers {
     Numbers::of_judgement(judgement)
 }
 
-fn words_of(is_row: bool, bytes: &[u8], words: &mut [u16]) -> Refusal {
-    if is_row {
-        return v210::unpack(bytes, words);
-    }
-    words::to_words(bytes, words)
-}
-
-fn bytes_of(is_row: bool, words: &[u16], bytes: &mut [u8]) -> Refusal {
-    if is_row {
-        return v210::pack(words, bytes);
-    }
-    words::to_bytes(words, bytes)
-}
-
 // So many bytes, then words.
-fn fill_words(is_row: bool, bytes: &[u8], words: &mut [u16], answer: &mut [u8]) -> usize {
-    let refusal = words_of(is_row, bytes, words);
-    let at_words = put_numbers(answer, Numbers::of_refusal(refusal));
+fn fill_words<F: FnOnce(&[u8], &mut [u16]) -> Result<(), Refused>>(
+    call: F,
+    bytes: &[u8],
+    words: &mut [u16],
+    answer: &mut [u8],
+) -> usize
+    requires { F.IsAlwaysCallable call }
+{
+    let result = call(bytes, words);
+    let at_words = put_numbers(answer, Numbers::of_result(result));
     put_words(answer, at_words, words)
 }
 
-// v210::unpack, or words::to_words.
-pub(crate) fn with_room_for_words(is_row: bool, payload: &[u8], answer: &mut [u8]) -> usize {
+// A call that takes words from bytes: v210::unpack, or words::to_words.
+pub(crate) fn with_room_for_words<F: FnOnce(&[u8], &mut [u16]) -> Result<(), Refused>>(
+    call: F,
+    payload: &[u8],
+    answer: &mut [u8],
+) -> usize
+    requires { F.IsAlwaysCallable call }
+{
     let mut words = [0u16; MOST_WORDS];
     let at_words = after_bytes(payload, MOST_BYTES, 0, 8);
     if after_words(payload, MOST_WORDS, 4, at_words) != payload.len() {
         return 0;
     }
     fill_words(
-        is_row,
+        call,
         part(payload, 8, at_words),
         taken_words(payload, 4, at_words, &mut words),
         answer,
@@ -52,14 +51,27 @@ pub(crate) fn with_room_for_words(is_row: bool, payload: &[u8], answer: &mut [u8
 }
 
 // Words, then bytes.
-fn fill_bytes(is_row: bool, words: &mut [u16], bytes: &mut [u8], answer: &mut [u8]) -> usize {
-    let refusal = bytes_of(is_row, words, bytes);
-    let put_at = put_numbers(answer, Numbers::of_refusal(refusal));
+fn fill_bytes<F: FnOnce(&[u16], &mut [u8]) -> Result<(), Refused>>(
+    call: F,
+    words: &[u16],
+    bytes: &mut [u8],
+    answer: &mut [u8],
+) -> usize
+    requires { F.IsAlwaysCallable call }
+{
+    let result = call(words, bytes);
+    let put_at = put_numbers(answer, Numbers::of_result(result));
     put_bytes(answer, put_at, bytes)
 }
 
-// v210::pack, or words::to_bytes.
-pub(crate) fn with_room_for_bytes(is_row: bool, payload: &[u8], answer: &mut [u8]) -> usize {
+// A call that gives words as bytes: v210::pack, or words::to_bytes.
+pub(crate) fn with_room_for_bytes<F: FnOnce(&[u16], &mut [u8]) -> Result<(), Refused>>(
+    call: F,
+    payload: &[u8],
+    answer: &mut [u8],
+) -> usize
+    requires { F.IsAlwaysCallable call }
+{
     let mut words = [0u16; MOST_WORDS];
     let mut bytes = [0u8; MOST_BYTES];
     let at_bytes = after_words(payload, MOST_WORDS, 0, 8);
@@ -67,7 +79,7 @@ pub(crate) fn with_room_for_bytes(is_row: bool, payload: &[u8], answer: &mut [u8
         return 0;
     }
     fill_bytes(
-        is_row,
+        call,
         taken_words(payload, 0, 8, &mut words),
         taken_bytes(payload, 4, at_bytes, &mut bytes),
         answer,

@@ -3,13 +3,30 @@ use captions::{Entry, Head};
 use cases::{
     MOST_BYTES, Numbers, after_bytes, number, part, put_bytes, put_numbers, taken_bytes, wide,
 };
+use refusal::Refused;
 
-fn of_head(head: Head) -> Numbers {
-    let entry = head.entry;
-    Numbers::one(head.number)
-        .with_wide(entry.ordinal)
-        .with(entry.space)
-        .with(entry.words)
+const NO_ENTRY: Entry = Entry {
+    ordinal: 0,
+    space: 0,
+    words: 0,
+};
+
+// A head that was judged where this was the least key that might come: of a refused one the entry is told as all zero, and the key as it was.
+fn of_head(least: u64, judged: Result<Head, Refused>) -> Numbers {
+    let (number, head) = match judged {
+        Ok(head) => (0, head),
+        Err(refused) => (
+            refused.reason.number(),
+            Head {
+                entry: NO_ENTRY,
+                least,
+            },
+        ),
+    };
+    Numbers::one(number)
+        .with_wide(head.entry.ordinal)
+        .with(head.entry.space)
+        .with(head.entry.words)
         .with_wide(head.least)
 }
 
@@ -19,7 +36,8 @@ pub(crate) fn judge(payload: &[u8]) -> Numbers {
     if payload.len() != end {
         return Numbers::none();
     }
-    of_head(captions::judge_head(wide(payload, 0), part(payload, 12, end)))
+    let least = wide(payload, 0);
+    of_head(least, captions::judge_head(least, part(payload, 12, end)))
 }
 
 // The entry that the first numbers tell.
@@ -32,8 +50,8 @@ fn entry(payload: &[u8]) -> Entry {
 }
 
 fn put_filled(payload: &[u8], head: &mut [u8], answer: &mut [u8]) -> usize {
-    let refusal = captions::put_head(entry(payload), head);
-    let at_head = put_numbers(answer, Numbers::of_refusal(refusal));
+    let result = captions::put_head(entry(payload), head);
+    let at_head = put_numbers(answer, Numbers::of_result(result));
     put_bytes(answer, at_head, head)
 }
 

@@ -64,10 +64,10 @@ fn answered(kind: u32, payload: &[u8]) -> Numbers {
 // Answers a case, and tells how many bytes the answer takes: 0 where the case is none, and more than there is room for where it does not fit.
 pub fn answer_case(kind: u32, payload: &[u8], answer: &mut [u8]) -> usize {
     match kind {
-        61 => bytes::with_room_for_words(false, payload, answer),
-        62 => bytes::with_room_for_bytes(false, payload, answer),
-        70 => bytes::with_room_for_words(true, payload, answer),
-        71 => bytes::with_room_for_bytes(true, payload, answer),
+        61 => bytes::with_room_for_words(words::to_words, payload, answer),
+        62 => bytes::with_room_for_bytes(words::to_bytes, payload, answer),
+        70 => bytes::with_room_for_words(v210::unpack, payload, answer),
+        71 => bytes::with_room_for_bytes(v210::pack, payload, answer),
         80 => recorders::with_room(kind, WALK + 4, payload, answer),
         81 => extractors::with_room(kind, WALK, payload, answer),
         86 => extractors::with_room(kind, runs::RUN, payload, answer),

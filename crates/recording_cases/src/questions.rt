@@ -2,8 +2,8 @@
 use cases::{
     MOST_BYTES, Numbers, after_bytes, number, part, put_bytes, put_numbers, taken_bytes, wide,
 };
-use index::{Asked, Entry, Question, Trailer};
-use refusal::Refusal;
+use index::{Entry, Question, Trailer};
+use refusal::{Refusal, Refused};
 use std::num::wrapping_add_usize;
 
 // The bytes of the numbers that tell a question.
@@ -21,9 +21,9 @@ fn entry_of(payload: &[u8]) -> Numbers {
     if payload.len() != 10 {
         return Numbers::none();
     }
-    of_entry(Entry::of(
+    of_entry(Entry::of([
         payload[4], payload[5], payload[6], payload[7], payload[8], payload[9],
-    ))
+    ]))
 }
 
 pub(crate) fn of_trailer(trailer: Trailer) -> Numbers {
@@ -57,26 +57,16 @@ fn trailer(payload: &[u8]) -> Trailer {
     }
 }
 
-fn put_entry(payload: &[u8], room: &mut [u8]) -> Refusal {
-    let told: Entry = entry(payload);
-    told.put(room)
-}
-
-fn put_trailer(payload: &[u8], room: &mut [u8]) -> Refusal {
-    let told: Trailer = trailer(payload);
-    told.put(room)
-}
-
-fn put_by(kind: u32, payload: &[u8], room: &mut [u8]) -> Refusal {
+fn put_by(kind: u32, payload: &[u8], room: &mut [u8]) -> Result<(), Refused> {
     if kind == 141 {
-        return put_entry(payload, room);
+        return entry(payload).put(room);
     }
-    put_trailer(payload, room)
+    trailer(payload).put(room)
 }
 
 fn put_filled(kind: u32, payload: &[u8], room: &mut [u8], answer: &mut [u8]) -> usize {
-    let refusal = put_by(kind, payload, room);
-    let at_room = put_numbers(answer, Numbers::of_refusal(refusal));
+    let result = put_by(kind, payload, room);
+    let at_room = put_numbers(answer, Numbers::of_result(result));
     put_bytes(answer, at_room, room)
 }
 
@@ -95,10 +85,14 @@ pub(crate) fn with_room(kind: u32, at: usize, payload: &[u8], answer: &mut [u8])
     )
 }
 
-fn of_asked(asked: Asked) -> Numbers {
-    Numbers::one(asked.number)
-        .with_place(asked.place)
-        .with_truth(asked.clean)
+fn of_asked(asked: Result<bool, Refused>) -> Numbers {
+    let (answer, clean) = match asked {
+        Ok(clean) => (Refusal::NONE, clean),
+        Err(refused) => (Refusal::from(refused), false),
+    };
+    Numbers::one(answer.number)
+        .with_place(answer.place)
+        .with_truth(clean)
 }
 
 // index::ask, of system, start, length, a, b, and then of a trailer and an index.
@@ -192,7 +186,7 @@ fn refusal(payload: &[u8]) -> Numbers {
         return Numbers::none();
     }
     let ended: Question = question(payload);
-    Numbers::of_refusal(ended.refusal())
+    Numbers::of_result(ended.refusal())
 }
 
 // Question::close.

@@ -1,3 +1,4 @@
 pub mod Firsts
 pub mod Tables
 pub mod Cases
+pub mod Results

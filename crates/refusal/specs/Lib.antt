@@ -1,3 +1,4 @@
 pub mod Numbers
 pub mod Answer
 pub mod Table
+pub mod Reasons

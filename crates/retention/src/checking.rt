@@ -1,23 +1,24 @@
 // `check`: whether all lines of a finished file are accepted and the index is theirs.
-ghost use Rattle.std.specs.Prelude.{◌≡◌, Bool};
+ghost use Rattle.std.specs.Prelude.{◌≡◌, Bool, Result};
+ghost use Rattle.console.specs.declared.Status.{Status as Ends};
 ghost use Rattle.retention.specs.declared.pieces.Parts.{Parts as PartsRead};
-ghost use Rattle.retention.specs.Turn.{Answers, found_status, no_status, checked_status};
+ghost use Rattle.retention.specs.Turn.{Answers, found_status, no_status, checked_status, exit_of};
 
-use crate::File;
 use crate::carrying::{Carried, carry};
 use crate::pieces::{Parts, read_end, read_index};
-use crate::sink::Sink;
+use crate::sink::{Index, Sink};
+use crate::{File, failed};
 use confirmation::Run;
+use console::Status;
 use finished::{Finishing, Meeting};
 use host::{Host, OUTPUT};
 use index::Question;
+use refusal::{Reason, Refused};
 
 fn print_theirs(host: &mut Host, finishing: Finishing) -> bool {
-    let run = finishing.run;
-    let walk = run.walk;
-    let mut is_written = console::say(host, OUTPUT, b"LINES ", walk.lines as u64);
-    is_written = is_written & console::say(host, OUTPUT, b" UNCLEAN ", finishing.entries as u64);
-    is_written
+    let lines = finishing.run.walk.lines;
+    console::say(host, OUTPUT, b"LINES ", u64::from(lines))
+        & console::say(host, OUTPUT, b" UNCLEAN ", u64::from(finishing.entries))
         & host.write_all(
             OUTPUT,
             b": all lines are accepted and the index is theirs\n",
@@ -25,17 +26,17 @@ fn print_theirs(host: &mut Host, finishing: Finishing) -> bool {
 }
 
 fn print_difference(host: &mut Host, ordinal: u32) -> bool {
-    let is_written = console::say(host, OUTPUT, b"ordinal ", ordinal as u64);
-    is_written & host.write_all(OUTPUT, b": the index differs\n")
+    console::say(host, OUTPUT, b"ordinal ", u64::from(ordinal))
+        & host.write_all(OUTPUT, b": the index differs\n")
 }
 
 fn print_refusal(host: &mut Host, run: Run) -> bool {
     let walk = run.walk;
-    let mut is_written = console::say(host, OUTPUT, b"ordinal ", walk.lines as u64);
-    is_written = is_written & console::say(host, OUTPUT, b": line ", walk.line as u64);
-    is_written = is_written & console::say(host, OUTPUT, b" refused ", run.number as u64);
-    is_written = is_written & console::say(host, OUTPUT, b", place ", run.place as u64);
-    is_written & host.write_all(OUTPUT, b"\n")
+    console::say(host, OUTPUT, b"ordinal ", u64::from(walk.lines))
+        & console::say(host, OUTPUT, b": line ", u64::from(walk.line))
+        & console::say(host, OUTPUT, b" refused ", u64::from(run.number))
+        & console::say(host, OUTPUT, b", place ", run.place as u64)
+        & host.write_all(OUTPUT, b"\n")
 }
 
 fn print_finding(host: &mut Host, finishing: Finishing, meeting: Meeting) -> bool {
@@ -58,17 +59,17 @@ fn tell(host: &mut Host, finishing: Finishing, meeting: Meeting) -> u32
         return 2;
     }
     if finished::is_theirs(finishing.run, meeting) {
-        return 0;
+        0
+    } else {
+        1
     }
-    1
 }
 
-// Says that a file is refused, and answers the exit status.
-fn refuse(host: &mut Host, name: &[u8], question: Question) -> u32
+// Says why a file is refused, and answers the exit status.
+fn refuse(host: &mut Host, name: &[u8], refused: Refused) -> u32
     ensures { result ≡ 2 }
 {
-    let refusal = question.refusal();
-    console::say_refused_file(host, b"check", name, refusal.number);
+    console::say_refused_file(host, b"check", name, refused.reason.number());
     2
 }
 
@@ -78,69 +79,69 @@ fn tell_no(
     finishing: Finishing,
     meeting: Meeting,
     name: &[u8],
-    parts: Parts,
+    question: Question,
 ) -> u32
-    ensures { (written : Bool) × (result ≡ no_status finishing.run meeting parts written) }
+    ensures { (written : Bool) × (result ≡ no_status finishing.run meeting question written) }
 {
-    let status = parts.status;
-    status.say_failure(host, b"check", name);
-    if status.code() != 0 {
-        return status.code();
+    match question.refusal() {
+        Ok(()) => tell(host, finishing, meeting),
+        Err(refused) => refuse(host, name, refused),
     }
-    let question = parts.question;
-    if question.refusal().number != 0 {
-        return refuse(host, name, question);
-    }
-    tell(host, finishing, meeting)
 }
 
 // What was carried, with the first entry that is left of the index. What is theirs is refused nothing, so the whole index is looked at for that
 // only where it is not.
-fn end(host: &mut Host, carried: Carried, file: File, name: &[u8], parts: Parts) -> u32
-    ensures { (answers : Answers) × (read : PartsRead) × (result ≡ checked_status carried read answers) }
+fn end(
+    host: &mut Host,
+    carried: Carried,
+    file: File,
+    name: &[u8],
+    parts: Parts,
+) -> Result<u32, Status>
+    ensures { (answers : Answers) × (read : Result PartsRead Ends) × (exit_of result ≡ checked_status carried read answers) }
 {
-    let sink = carried.sink;
-    let ended = sink.end(host);
-    let last = ended.sink;
-    let status = ended.status;
-    status.say_failure(host, b"check", name);
-    if status.code() != 0 {
-        return status.code();
-    }
     let finishing = carried.finishing;
-    if finished::is_theirs(finishing.run, last.meeting) {
-        return tell(host, finishing, last.meeting);
+    let meeting = carried.sink.end(host)?;
+    if finished::is_theirs(finishing.run, meeting) {
+        return Ok(tell(host, finishing, meeting));
     }
-    let whole = read_index(host, file, parts);
-    tell_no(host, finishing, last.meeting, name, whole)
+    let whole = read_index(host, file, parts)?;
+    Ok(tell_no(host, finishing, meeting, name, whole.question))
 }
 
-// Checks the lines of a file whose trailer fits.
-fn check_lines(host: &mut Host, file: File, name: &[u8], parts: Parts) -> u32 {
+// What refuses a file before its index is read: the numbers of its system and line, and a trailer that does not fit.
+fn end_refusal(file: File, question: Question) -> Result<(), Refused> {
+    system::named_refusal(file.system, file.start)?;
+    if question.wrong {
+        return Err(Reason::BadParts.at(0));
+    }
+    Ok(())
+}
+
+// Checks a file as far as it can be read.
+fn check_read(host: &mut Host, file: File, name: &[u8]) -> Result<u32, Status> {
+    let parts = read_end(host, file, 0, 0)?;
+    if let Err(refused) = end_refusal(file, parts.question) {
+        return Ok(refuse(host, name, refused));
+    }
     let trailer = parts.trailer;
-    let sink = Sink::checking(file.number, trailer.offset, 6 * (trailer.entries as u64));
+    let index = Index {
+        file: file.number,
+        offset: trailer.offset,
+        left: 6 * u64::from(trailer.entries),
+        meeting: Meeting::NONE,
+    };
     let finishing = Finishing::of(Run::fresh(file.system, file.start));
     host.rewind(file.number);
-    let carried = carry(host, file.number, finishing, sink, trailer.offset);
-    let status = carried.status;
-    status.say_failure(host, b"check", name);
-    if status.code() != 0 {
-        return status.code();
-    }
+    let sink = Sink::Checking(index);
+    let carried = carry(host, file.number, finishing, sink, trailer.offset)?;
     end(host, carried, file, name, parts)
 }
 
 // The full check of a finished file, and the exit status: 0 where all lines are accepted and the index is theirs, 1 where not.
 pub fn check(host: &mut Host, file: File, name: &[u8]) -> u32 {
-    let parts = read_end(host, file, 0, 0);
-    let status = parts.status;
-    status.say_failure(host, b"check", name);
-    if status.code() != 0 {
-        return status.code();
+    match check_read(host, file, name) {
+        Ok(status) => status,
+        Err(status) => failed(host, b"check", name, status),
     }
-    let question = parts.question;
-    if question.wrong | (system::named_refusal(file.system, file.start).number != 0) {
-        return refuse(host, name, question);
-    }
-    check_lines(host, file, name, parts)
 }

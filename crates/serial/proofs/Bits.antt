@@ -33,7 +33,7 @@ one_digit : (b : Bool) → one? (digit b) ≡ b
 one_digit false = refl
 one_digit true = refl
 
-digit_one : (n : ℕ) → n < 2 → digit (one? n) ≡ n
+pub digit_one : (n : ℕ) → n < 2 → digit (one? n) ≡ n
 digit_one zero h = refl
 digit_one (suc n) h = omega arith
 

@@ -2,7 +2,7 @@
 use mathlib.Core.Path.{◌≡◌, refl, ap, ◌∙◌}
 use mathlib.Core.Bool.{Bool, false}
 use mathlib.Core.List.{List, [], ◌∷◌, ◌++◌}
-use Prim.Native.Nat.{ℕ, zero, suc, ◌*◌, ◌/◌, ◌%◌, ◌^◌, ◌<◌}
+use Prim.Native.Nat.{ℕ, zero, suc, ◌*◌, ◌/◌, ◌%◌, ◌^◌, ◌<◌, ◌≤◌}
 use native.Mathlib.Omega.{arith}
 use lib.Bits.{bit_xor, bit_and}
 use lib.ListN.{take, drop, replicate}
@@ -10,9 +10,9 @@ use Rattle.serial.specs.declared.held.Held.{Held}
 use Rattle.serial.specs.Bits.{◌⊕◌, one?, bits, num}
 use Rattle.serial.specs.Serial.{scrambled_bit, coded, code_word, past_coding}
 use Rattle.serial.specs.Calls.{short_delay, long_delay}
-use Rattle.serial.specs.Held.{past_held, Bounded}
+use Rattle.serial.specs.Held.{past_held, past_in}
 use Rattle.serial.proofs.Bits.{xor_assoc, xor_false}
-use Rattle.serial.proofs.Machine.{xors, Is, is_bits, is_xor, is_shr, is_shl, is_mask, is_list, past_is, bounded_is}
+use Rattle.serial.proofs.Machine.{xors, Is, is_bits, is_xor, is_shr, is_shl, is_mask, is_list, past_is, is_nine, is_one}
 use Rattle.serial.proofs.Steps.{code, after_code}
 
 -- the scrambled bits of plain bits, after the scrambled bits of the past
@@ -87,16 +87,16 @@ module _ (h : Held) (w : ℕ) {s y : ℕ} (is-s : Is s (scrambled_bits (past_hel
         ∙ ap num (running_scrambled (past_held h).scrambled (past_held h).last (bits 10 w));
   }
 
-  abbrev after : Held
-  after = record { scrambled = s / 2; last = y / 512 }
-
   pub word_coded : y ≡ code (past_held h) w
   unfolding code_word
   word_coded = is_coded.eq
 
-  pub past_coded : past_held after ≡ after_code (past_held h) w
+  pub past_coded : past_in (s / 2) (y / 512) ≡ after_code (past_held h) w
   unfolding past_coding
-  past_coded = past_is after refl refl (is_shr 1 is-s) (is_shr 9 is_coded)
+  past_coded = past_is refl refl (is_shr 1 is-s) (is_shr 9 is_coded)
 
-  pub bounded_coded : Bounded after
-  bounded_coded = bounded_is after refl refl (is_shr 1 is-s) (is_shr 9 is_coded)
+  pub nine_coded : s / 2 ≤ 511
+  nine_coded = is_nine refl (is_shr 1 is-s)
+
+  pub one_coded : y / 512 ≤ 1
+  one_coded = is_one refl (is_shr 9 is_coded)

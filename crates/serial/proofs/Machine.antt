@@ -2,16 +2,15 @@
 use mathlib.Core.Path.{◌≡◌, refl, sym, ap, ap₂, ◌∙◌}
 use mathlib.Core.Bool.{Bool, true, false}
 use mathlib.Core.List.{List, [], ◌∷◌, ◌++◌, reverse}
-use Prim.Native.Nat.{ℕ, zero, suc, ◌+◌, ◌-◌, ◌*◌, ◌/◌, ◌%◌, ◌^◌, ◌<◌}
+use Prim.Native.Nat.{ℕ, zero, suc, ◌+◌, ◌-◌, ◌*◌, ◌/◌, ◌%◌, ◌^◌, ◌<◌, ◌≤◌}
 use native.Mathlib.Nat.{le_of_suc-le-suc, pow-suc, add-zero, mul-one, mod-one, div-one, zero-div, zero-mod, div-div-eq-div-mul, mul_assoc, mul_comm}
 use native.Mathlib.Omega.{arith}
 use lib.Arith.{mod-mul}
 use lib.Pow.{pow_pos}
 use lib.Bits.{bit_xor, bit_and, differ, xor_step, xor_zero_r, and_mask}
 use lib.ListN.{length, get_or, take, drop, replicate}
-use Rattle.serial.specs.declared.held.Held.{Held}
 use Rattle.serial.specs.Bits.{◌⊕◌, digit, bits, num}
-use Rattle.serial.specs.Held.{past_held, Bounded}
+use Rattle.serial.specs.Held.{past_in}
 use Rattle.serial.proofs.Bits.{num_odd, num_half, bits_num, num_bits, num_lt}
 
 -- exclusive or of two lists, the shorter one going on with zeros
@@ -35,7 +34,7 @@ num_xor (x ∷ xs) (y ∷ ys) =
     (ap₂ bit_xor (num_half x xs) (num_half y ys) ∙ num_xor xs ys)
     (ap₂ differ (num_odd x xs) (num_odd y ys) ∙ differ_digit x y)
 
-num_shr : (k : ℕ) (bs : List Bool) → num bs / 2 ^ k ≡ num (drop k bs)
+pub num_shr : (k : ℕ) (bs : List Bool) → num bs / 2 ^ k ≡ num (drop k bs)
 num_shr zero bs = div-one (num bs)
 num_shr (suc k) [] = zero-div (2 ^ suc k)
 num_shr (suc k) (b ∷ bs) =
@@ -61,6 +60,10 @@ pub record Is (x : ℕ) (bs : List Bool) : Type 0 where
 
 pub is_bits : (n : ℕ) {x : ℕ} → x < 2 ^ n → Is x (bits n x)
 is_bits n {x} h = record { eq = sym (num_bits n x h) }
+
+-- a word, taken into a wider number
+pub is_word : {x w : ℕ} → x ≡ w → w ≤ 1023 → Is x (bits 10 w)
+is_word {x} {w} e h = record { eq = e ∙ sym (num_bits 10 w (omega arith)) }
 
 pub is_xor : {x y : ℕ} {xs ys : List Bool} → Is x xs → Is y ys → Is (bit_xor x y) (xors xs ys)
 is_xor {xs = xs} {ys = ys} p q = record { eq = ap₂ bit_xor p.eq q.eq ∙ num_xor xs ys }
@@ -88,16 +91,16 @@ is_list {x} {xs} q = ap (bits (length xs)) q.eq ∙ bits_num xs
 pub is_lt : {x : ℕ} {xs : List Bool} → Is x xs → x < 2 ^ length xs
 is_lt {x} {xs} q = rw q.eq (num_lt xs)
 
--- what is held, from its bits: nine, the earliest first, and one
-module _ (h : Held) {xs ys : List Bool} (nine : length xs ≡ 9) (one : length ys ≡ 1) (is-h : Is h.scrambled xs) (is-l : Is h.last ys) where
-  pub past_is : past_held h ≡ record { scrambled = reverse xs; last = get_or ys 0 false }
-  past_is =
-      ap₂ (λ (u v : List Bool). record { scrambled = reverse u; last = get_or v 0 false })
-      (ap (λ (n : ℕ). bits n h.scrambled) (sym nine) ∙ is_list is-h)
-      (ap (λ (n : ℕ). bits n h.last) (sym one) ∙ is_list is-l)
+pub is_nine : {x : ℕ} {xs : List Bool} → length xs ≡ 9 → Is x xs → x ≤ 511
+is_nine e q = le_of_suc-le-suc (rw e at (is_lt q))
 
-  pub bounded_is : Bounded h
-  bounded_is = record {
-    nine = le_of_suc-le-suc (rw nine at (is_lt is-h));
-    one = le_of_suc-le-suc (rw one at (is_lt is-l));
-  }
+pub is_one : {x : ℕ} {xs : List Bool} → length xs ≡ 1 → Is x xs → x ≤ 1
+is_one e q = le_of_suc-le-suc (rw e at (is_lt q))
+
+-- the past that is held in two numbers, from their bits: nine, the earliest first, and one
+pub past_is : {x y : ℕ} {xs ys : List Bool} → length xs ≡ 9 → length ys ≡ 1 → Is x xs → Is y ys
+    → past_in x y ≡ record { scrambled = reverse xs; last = get_or ys 0 false }
+past_is {x} {y} nine one is_x is_y =
+    ap₂ (λ (u v : List Bool). record { scrambled = reverse u; last = get_or v 0 false })
+    (ap (λ (n : ℕ). bits n x) (sym nine) ∙ is_list is_x)
+    (ap (λ (n : ℕ). bits n y) (sym one) ∙ is_list is_y)

@@ -8,13 +8,12 @@ use native.Mathlib.Omega.{arith}
 use lib.ListN.{length}
 use lib.Seq.{length-take-le}
 use Rattle.serial.specs.declared.State.{State}
-use Rattle.serial.specs.declared.Answer.{Answer}
 use Rattle.serial.specs.Bits.{bits, num, digit, one?}
 use Rattle.serial.specs.Serial.{Past, push, coder_step, decoder_step, after_coding, after_decoding, past_coding, past_decoding, outs, ends, code_words, end_coding, decode_words, end_decoding}
-use Rattle.refusal.specs.Answer.{written_by}
-use Rattle.serial.specs.Calls.{short_delay, long_delay, past_of, state_of, serial_refusal, answer_of, code_answer, code_output, decode_answer, decode_output}
+use Rattle.serial.specs.Calls.{Answer, short_delay, long_delay, past_of, state_of, serial_refusal, code_answer, code_output, decode_answer, decode_output}
 use Rattle.serial.proofs.Bits.{bits_num}
 use Rattle.serial.proofs.Steps.{code, after_code, decode, after_decode}
+use Rattle.serial.specs.Held.{run_answer, run_output}
 use Rattle.serial.proofs.Answers.{accepted_call}
 
 -- ---- nine scrambled bits stay nine
@@ -64,21 +63,14 @@ module _ (f : Past → ℕ → ℕ) (g : Past → ℕ → Past) (keeps : (p : Pa
   ends_nine p [] nine = nine
   ends_nine p (w ∷ a) nine = ends_nine (g p w) a (keeps p w nine)
 
-  -- what a call answers and leaves
-  abbrev answer : State → List ℕ → List ℕ → Answer
-  answer s words out = answer_of (serial_refusal s words (length out)) s (state_of (ends f g (past_of s) words))
-
-  abbrev output : State → List ℕ → List ℕ → List ℕ
-  output s words out = written_by (serial_refusal s words (length out)) (outs f g (past_of s) words) out
-
   in_pieces : (s : State) (a b first second : List ℕ) → (serial_refusal s a (length first)).number ≡ 0
-      → (serial_refusal (answer s a first).state b (length second)).number ≡ 0
-      → (output s a first ++ output (answer s a first).state b second ≡ outs f g (past_of s) (a ++ b))
-      × ((answer (answer s a first).state b second).state ≡ state_of (ends f g (past_of s) (a ++ b)))
+      → (serial_refusal (run_answer f g s a first).state b (length second)).number ≡ 0
+      → (run_output f g s a first ++ run_output f g (run_answer f g s a first).state b second ≡ outs f g (past_of s) (a ++ b))
+      × ((run_answer f g (run_answer f g s a first).state b second).state ≡ state_of (ends f g (past_of s) (a ++ b)))
   in_pieces s a b first second ok ok-too =
       let one = accepted_call f g s a first ok in
-      let two = accepted_call f g (answer s a first).state b second ok-too in
-      let held : past_of (answer s a first).state ≡ ends f g (past_of s) a =
+      let two = accepted_call f g (run_answer f g s a first).state b second ok-too in
+      let held : past_of (run_answer f g s a first).state ≡ ends f g (past_of s) a =
       ap (λ (r : Answer). past_of r.state) one.0 ∙ past_of_state (ends f g (past_of s) a) (ends_nine (past_of s) a refl) in (
         ap₂ ◌++◌ one.1 (two.1 ∙ ap (λ (p : Past). outs f g p b) held) ∙ sym (outs_append (past_of s) a b),
         ap (λ (r : Answer). r.state) two.0 ∙ ap (λ (p : Past). state_of (ends f g p b)) held

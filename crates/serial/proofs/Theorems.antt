@@ -7,9 +7,8 @@ use lib.ListN.{length}
 use Rattle.refusal.specs.declared.Refusal.{Refusal}
 use Rattle.refusal.specs.Answer.{written_by, or_else, first_from}
 use Rattle.serial.specs.declared.State.{State}
-use Rattle.serial.specs.declared.Answer.{Answer}
 use Rattle.serial.specs.Serial.{Past, outs, ends, code_word, past_coding}
-use Rattle.serial.specs.Calls.{short_delay, long_delay, fresh_state, past_of, state_of, serial_refusal, answer_of, code_answer, code_output, decode_answer, decode_output}
+use Rattle.serial.specs.Calls.{Answer, short_delay, long_delay, fresh_state, past_of, state_of, serial_refusal, answer_of, code_answer, code_output, decode_answer, decode_output}
 use Rattle.serial.proofs.Bits.{num_bits, digit_held}
 use Rattle.serial.proofs.Steps.{code, after_code, decode, after_decode}
 use Rattle.serial.proofs.Run.{outs_length}

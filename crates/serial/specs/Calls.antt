@@ -1,11 +1,12 @@
 -- What the calls code and decode answer, and what they leave in the output, for every input.
-use Rattle.std.specs.Prelude.{not, cond, ◌||◌, List, [], ◌∷◌, ℕ, ◌%◌, length, ltb, eqb}
+use Rattle.std.specs.Prelude.{not, cond, ◌||◌, List, [], ◌∷◌, ℕ, ◌%◌, length, ltb, eqb, Result, Ok, Err}
 use Rattle.refusal.specs.declared.Refusal.{Refusal}
 use Rattle.refusal.specs.Numbers.{wrong_length, bad_state}
 use Rattle.refusal.specs.Answer.{refuse, written_by, first_of}
+use Rattle.refusal.specs.Reasons.{number_of}
 use Rattle.words.specs.Words.{over_refusal}
 use Rattle.serial.specs.declared.State.{State}
-use Rattle.serial.specs.declared.Answer.{Answer}
+use Rattle.serial.specs.declared.Returned.{Returned}
 use Rattle.serial.specs.Bits.{bits, num, digit, one?}
 use Rattle.serial.specs.Serial.{Past, code_words, end_coding, decode_words, end_decoding}
 
@@ -15,6 +16,18 @@ short_delay = 5
 
 abbrev pub long_delay : ℕ
 long_delay = 9
+
+-- what a call answers: 0 and the state after the words, or a refusal and the state as given
+pub record Answer : Type 0 where
+  pub number : ℕ
+  pub place : ℕ
+  pub state : State
+
+-- the answer that a call's result tells
+abbrev pub told : Result State Returned → Answer
+told (Ok after) = record { number = 0; place = 0; state = after }
+told (Err returned) =
+    record { number = number_of returned.refused.reason; place = returned.refused.place; state = returned.state }
 
 -- "fresh is 0 and 0"
 abbrev pub fresh_state : State

@@ -1,12 +1,15 @@
-// The coder. Each word waits for what is held after the one before, so that is kept to few steps, and in two numbers of their own:
-// the scrambled bits do not wait for the channel bit.
+// The coder. Each word waits for what is held after the one before, so that is kept to few steps: the scrambled bits do not wait for
+// the channel bit.
 ghost use Rattle.std.specs.Prelude.{◌≡◌, ◌≤◌};
-ghost use Rattle.serial.specs.Serial.{code_word, past_coding, code_words, end_coding};
+ghost use Rattle.serial.specs.Serial.{code_word, past_coding};
 ghost use Rattle.serial.specs.Calls.{short_delay, long_delay};
-ghost use Rattle.serial.specs.Held.{past_held, Bounded, Ready};
+ghost use Rattle.serial.specs.Held.{past_held};
 
 use crate::held::Held;
+use crate::pass::Pass;
 use crate::word::low_ten;
+
+pub(crate) struct Coder;
 
 // A channel word, and what is held after it.
 #[derive(Clone, Copy)]
@@ -16,34 +19,29 @@ struct Coded {
 }
 
 // Codes the words in turn, each from what the one before left.
-pub(crate) fn code_words(held: Held, words: &[u16], out: &mut [u16]) -> Held
-    requires { Bounded held × Ready words.now out.old }
-    ensures output { out.new ≡ code_words short_delay long_delay (past_held held) words.now }
-    ensures past { past_held result ≡ end_coding short_delay long_delay (past_held held) words.now }
-    ensures bounded { Bounded result }
-{
-    let mut scrambled = held.scrambled;
-    let mut last = held.last;
-    let mut i = 0;
-    while i < words.len() {
-        let coded = code_word(Held { scrambled, last }, words[i]);
-        out[i] = coded.word;
-        scrambled = coded.after.scrambled;
-        last = coded.after.last;
-        i += 1;
+impl Pass for Coder {
+    ghost word = { code_word short_delay long_delay };
+
+    ghost past = { past_coding short_delay long_delay };
+
+    fn run(mut held: Held, words: &[u16], out: &mut [u16]) -> Held {
+        for (i, word) in words.iter().enumerate() {
+            let coded = code_word(held, *word);
+            out[i] = coded.word;
+            held = coded.after;
+        }
+        held
     }
-    Held { scrambled, last }
 }
 
 // Scrambles ten bits at once: for the low five both earlier bits are held, and for the high five those not held are among the low five.
 // A channel bit is the last one before the word xor all scrambled bits up to its own, gathered by two, four, eight and sixteen.
 fn code_word(held: Held, word: u16) -> Coded
-    requires { Bounded held × (word ≤ 1023) }
+    requires { word ≤ 1023 }
     ensures word { result.word ≡ code_word short_delay long_delay (past_held held) word }
     ensures past { past_held result.after ≡ past_coding short_delay long_delay (past_held held) word }
-    ensures bounded { Bounded result.after }
 {
-    let plain = word as u32;
+    let plain = u32::from(word);
     let earlier = (held.scrambled >> 4) ^ held.scrambled;
     let low_five = plain ^ earlier;
     let scrambled = (plain ^ (((low_five << 5) ^ (low_five << 9)) ^ earlier)) & 1023;

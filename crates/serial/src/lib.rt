@@ -4,30 +4,34 @@
 mod coder;
 mod decoder;
 mod held;
+mod pass;
 mod word;
 
 ghost use Rattle.std.specs.Prelude.{◌≡◌};
-ghost use Rattle.serial.specs.Calls.{fresh_state, state_of, serial_refusal, code_answer, code_output, decode_answer, decode_output};
-ghost use Rattle.serial.specs.Held.{past_held, Bounded};
+ghost use Rattle.refusal.specs.Reasons.{answered};
+ghost use Rattle.serial.specs.Calls.{fresh_state, serial_refusal, told, code_answer, code_output, decode_answer, decode_output};
+ghost use Rattle.serial.specs.Held.{run_answer, run_output};
 
+use crate::coder::Coder;
+use crate::decoder::Decoder;
 use crate::held::Held;
-use refusal::{Number, Refusal};
+use crate::pass::Pass;
+use refusal::{Reason, Refused};
 
 // The most words of one call.
 const MOST_WORDS: usize = 65536;
 
 // The last nine scrambled bits, the newest lowest, and the last channel bit.
-#[derive(Clone, Copy)]
+#[derive(Clone, Copy, Debug, Default, PartialEq, Eq)]
 pub struct State {
     pub scrambled: u32,
     pub last: u32,
 }
 
-// What a call answers: 0 and the state after the words, or a refusal and the state as given.
-#[derive(Clone, Copy)]
-pub struct Answer {
-    pub number: u32,
-    pub place: usize,
+// What a refused call hands back: the refusal, and the state as given.
+#[derive(Clone, Copy, Debug, PartialEq, Eq)]
+pub struct Returned {
+    pub refused: Refused,
     pub state: State,
 }
 
@@ -36,81 +40,53 @@ impl State {
     pub fn fresh() -> State
         ensures { result ≡ fresh_state }
     {
-        State {
-            scrambled: 0,
-            last: 0,
-        }
+        State::default()
     }
 }
 
-// Scrambles words into an output of equal length: 13, then 3, then 5 at the first word over 1023.
-pub fn code(state: State, words: &[u16], out: &mut [u16]) -> Answer
-    ensures answer { result ≡ code_answer state words.now out.old }
+// Scrambles words into an output of equal length: 13, then 3, then 5 at the first word over 1023. It answers the state after the words.
+#[tactic(auto, unfolding(crate::specs::Calls::code_answer, crate::specs::Calls::code_output))]
+pub fn code(state: State, words: &[u16], out: &mut [u16]) -> Result<State, Returned>
+    ensures answer { told result ≡ code_answer state words.now out.old }
     ensures output { out.new ≡ code_output state words.now out.old }
 {
-    let refusal = refusal_of(state, words, out.len());
-    if refusal.number != 0 {
-        return refused(refusal, state);
-    }
-    accepted(coder::code_words(held::hold(state), words, out))
+    run_words::<Coder>(state, words, out)
 }
 
 // Undoes code: the same refusals, and from the same state the words that were coded.
-pub fn decode(state: State, words: &[u16], out: &mut [u16]) -> Answer
-    ensures answer { result ≡ decode_answer state words.now out.old }
+#[tactic(auto, unfolding(crate::specs::Calls::decode_answer, crate::specs::Calls::decode_output))]
+pub fn decode(state: State, words: &[u16], out: &mut [u16]) -> Result<State, Returned>
+    ensures answer { told result ≡ decode_answer state words.now out.old }
     ensures output { out.new ≡ decode_output state words.now out.old }
 {
-    let refusal = refusal_of(state, words, out.len());
-    if refusal.number != 0 {
-        return refused(refusal, state);
-    }
-    accepted(decoder::decode_words(held::hold(state), words, out))
+    run_words::<Decoder>(state, words, out)
 }
 
-// What a call with an output of this length is refused for, in the document's order, or number 0.
-fn refusal_of(state: State, words: &[u16], room: usize) -> Refusal
-    ensures { result ≡ serial_refusal state words.now room }
+// A call of either: a refused one hands the state back and stores nothing.
+fn run_words<P: Pass>(state: State, words: &[u16], out: &mut [u16]) -> Result<State, Returned>
+    ensures answer { told result ≡ run_answer P.word P.past state words.now out.old }
+    ensures output { out.new ≡ run_output P.word P.past state words.now out.old }
+{
+    if let Err(refused) = serial_refusal(state, words, out.len()) {
+        return Err(Returned { refused, state });
+    }
+    let after = P::run(Held::of(state), words, out);
+    Ok(after.state())
+}
+
+// What a call with an output of this length is refused for, in the document's order.
+#[tactic(auto, using(crate::proofs::Refusals::over_alone), unfolding(crate::specs::Calls::serial_refusal, refusal::specs::Answer::or_else))]
+fn serial_refusal(state: State, words: &[u16], room: usize) -> Result<(), Refused>
+    ensures { answered result ≡ serial_refusal state words.now room }
 {
     if state.scrambled > 511 || state.last > 1 {
-        return Refusal {
-            number: Number::BAD_STATE,
-            place: 0,
-        };
+        return Err(Reason::BadState.at(0));
     }
     if words.len() > MOST_WORDS {
-        return Refusal {
-            number: Number::WRONG_LENGTH,
-            place: 0,
-        };
+        return Err(Reason::WrongLength.at(0));
     }
     if room != words.len() {
-        return Refusal {
-            number: Number::WRONG_LENGTH,
-            place: 1,
-        };
+        return Err(Reason::WrongLength.at(1));
     }
     words::first_over(words)
-}
-
-// A refused call hands the state back.
-fn refused(refusal: Refusal, state: State) -> Answer
-    ensures { result ≡ record { number = refusal.number; place = refusal.place; state = state } }
-{
-    Answer {
-        number: refusal.number,
-        place: refusal.place,
-        state,
-    }
-}
-
-// An accepted call hands back the state after the words.
-fn accepted(after: Held) -> Answer
-    requires { Bounded after }
-    ensures { result ≡ record { number = 0; place = 0; state = state_of (past_held after) } }
-{
-    Answer {
-        number: 0,
-        place: 0,
-        state: held::release(after),
-    }
 }

@@ -7,9 +7,10 @@ ghost use Rattle.reader.specs.Judge.{judged_of};
 ghost use Rattle.reader.specs.Take.{take_refusal, taken_of, in_turn};
 ghost use Rattle.writer.specs.Write.{write_refusal, line_after};
 ghost use Rattle.index.specs.Parts.{answer_of};
-ghost use Rattle.serial.specs.Calls.{code_answer, code_output, decode_answer, decode_output};
+ghost use Rattle.serial.specs.Calls.{told, code_answer, code_output, decode_answer, decode_output};
 
-use serial::State;
+use refusal::Refusal;
+use serial::{Returned, State};
 use system::{System525, Walk};
 
 #[unsafe(no_mangle)]
@@ -35,7 +36,7 @@ pub extern "C" fn speed_take(
     ensures crs { cr.new ≡ (taken_of (fresh_walk system line) words.now (record { y = y.old; cb = cb.old; cr = cr.old })).cr }
 {
     let walk = Walk::of(system, line, 0, 0, 0, 0);
-    reader::take(walk, words, y, cb, cr).number
+    Refusal::of(reader::take(walk, words, y, cb, cr)).number
 }
 
 // Judging and taking in turn, as one who reads lines has it.
@@ -58,7 +59,7 @@ pub extern "C" fn speed_in_turn(
     if judgement.number != 0 {
         return judgement.number;
     }
-    reader::take(walk, words, y, cb, cr).number
+    Refusal::of(reader::take(walk, words, y, cb, cr)).number
 }
 
 #[unsafe(no_mangle)]
@@ -75,18 +76,18 @@ pub extern "C" fn speed_write(
     ensures answer { result ≡ (write_refusal system line 20 (record { samples = record { y = y.now; cb = cb.now; cr = cr.now }; packets = record { between = between.now; active = active.now } }) (length words.old)).number }
     ensures words { words.new ≡ line_after system line 20 (record { samples = record { y = y.now; cb = cb.now; cr = cr.now }; packets = record { between = between.now; active = active.now } }) words.old }
 {
-    writer::write(
-        system,
-        line,
-        System525::LAST_FALL,
-        y,
-        cb,
-        cr,
-        between,
-        active,
-        words,
-    )
-    .number
+    let fall = System525::LAST_FALL;
+    Refusal::of(writer::write(system, line, fall, y, cb, cr, between, active, words)).number
+}
+
+// The number of a coder's or decoder's answer.
+fn number_of(coded: Result<State, Returned>) -> u32
+    ensures { result ≡ (told coded).number }
+{
+    match coded {
+        Ok(_) => 0,
+        Err(returned) => returned.refused.reason.number(),
+    }
 }
 
 #[unsafe(no_mangle)]
@@ -94,15 +95,7 @@ pub extern "C" fn speed_code(words: &[u16], out: &mut [u16]) -> u32
     ensures answer { result ≡ (code_answer (record { scrambled = 0; last = 0 }) words.now out.old).number }
     ensures output { out.new ≡ code_output (record { scrambled = 0; last = 0 }) words.now out.old }
 {
-    serial::code(
-        State {
-            scrambled: 0,
-            last: 0,
-        },
-        words,
-        out,
-    )
-    .number
+    number_of(serial::code(State::fresh(), words, out))
 }
 
 #[unsafe(no_mangle)]
@@ -110,15 +103,7 @@ pub extern "C" fn speed_decode(words: &[u16], out: &mut [u16]) -> u32
     ensures answer { result ≡ (decode_answer (record { scrambled = 0; last = 0 }) words.now out.old).number }
     ensures output { out.new ≡ decode_output (record { scrambled = 0; last = 0 }) words.now out.old }
 {
-    serial::decode(
-        State {
-            scrambled: 0,
-            last: 0,
-        },
-        words,
-        out,
-    )
-    .number
+    number_of(serial::decode(State::fresh(), words, out))
 }
 
 #[unsafe(no_mangle)]
@@ -133,5 +118,8 @@ pub extern "C" fn speed_ask(
 ) -> u32
     ensures { result ≡ (answer_of system start trailer.now index.now length a b).number }
 {
-    index::ask(system, start, trailer, index, length, a, b).number
+    match index::ask(system, start, trailer, index, length, a, b) {
+        Ok(_) => 0,
+        Err(refused) => refused.reason.number(),
+    }
 }

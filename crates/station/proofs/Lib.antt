@@ -1,3 +1,1 @@
-pub mod NextEntries
-pub mod Turns
 pub mod Lines

@@ -1,33 +1,23 @@
 -- What the loops over lines keep: so far the tape comes to what the whole row, or the frame's end, comes to. Assumes nothing.
-use Rattle.std.proofs.Common.{◌≡◌, ℕ, zero, suc, Bool, true, false, eqb, List, [], sym, refl, ap, ◌∙◌, subst, true≢false, eq-eqb, eqb-true}
+use Rattle.std.proofs.Common.{◌≡◌, ℕ, zero, suc, Bool, true, false, eqb, List, [], sym, refl, ap, ◌∙◌, subst, true≢false, eq-eqb, eqb-true, Result, Ok, Err}
+use Rattle.std.specs.Prelude.{is_ok}
 use Rattle.refusal.proofs.Cases.{by_test}
 use Rattle.line.specs.Samples.{Packets}
 use Rattle.programme.specs.declared.tape.Tape.{Tape}
 use Rattle.programme.specs.Record.{takes_row}
 use Rattle.programme.specs.Tape.{turns_at, taped_of, bare_taped, ends_at, at_line, nothing_more, onto, end_of, most_turns}
 use Rattle.station.specs.declared.entries.Entries.{Entries}
-use Rattle.station.specs.declared.entries.Next.{Next}
-use Rattle.station.specs.declared.entries.Next.TheVariants.{Nothing, Told, Bad, Lost}
 use Rattle.station.specs.declared.taping.Output.{Output}
 use Rattle.station.specs.declared.taping.Taping.{Taping}
-use Rattle.station.specs.Entries.{is_left, next_line}
+use Rattle.station.specs.declared.turning.Ended.{Ended}
+use Rattle.console.specs.declared.Status.{Status}
+use Rattle.station.specs.Entries.{next_line}
 use Rattle.station.specs.Turns.{taped_turn, Onto, no_line_left, row_taken, row_passed, FrameEnd, no_line_more, frame_goes_on}
 
--- where nothing is left, nothing comes next
-pub nothing_next : (n : Next) → is_left n ≡ false → n ≡ Nothing
-nothing_next Nothing e = refl
-nothing_next (Told entry) e = absurd (true≢false e)
-nothing_next Bad e = absurd (true≢false e)
-nothing_next Lost e = absurd (true≢false e)
-
--- so a taping of which something is left is not one of which nothing is
-pub not_left : (at first : Taping) → is_left at.entries.next ≡ true → at ≡ first → first.entries.next ≡ Nothing → ⊥
-not_left at first left is none = true≢false (sym left ∙ ap (λ (t : Taping). is_left t.entries.next) is ∙ ap is_left none)
-
 -- ---- a line without packets that goes on has taken its step
-taken_number : (t : Tape) (output : Output) (e : Entries) (written : Bool) → (taped_turn t output e written).done ≡ false → t.number ≡ 0
-taken_number t output e written goes =
-    by_test (eqb t.number 0) (λ z. eqb-true _ _ z) (λ n. absurd (true≢false (simp n at goes)))
+taping_or : Taping → Result Taping (Ended Taping Status) → Taping
+taping_or other (Ok at) = at
+taping_or other (Err e) = other
 
 -- what such a turn leaves
 pub record Bare (t : Tape) (e : Entries) (r : Taping) : Type 0 where
@@ -35,15 +25,19 @@ pub record Bare (t : Tape) (e : Entries) (r : Taping) : Type 0 where
   pub number : t.number ≡ 0
   pub next : r.entries.next ≡ e.next
 
-pub bare_line : (t : Tape) (output : Output) (e : Entries) (r : Taping) → ((written : Bool) × (r ≡ taped_turn t output (next_line e) written))
-    → r.done ≡ false → Bare t e r
-bare_line t output e r turn goes =
-    let is = turn.1 in
-    record {
-      tape = ap (λ (x : Taping). x.tape) is;
-      number = taken_number t output (next_line e) turn.0 (sym (ap (λ (x : Taping). x.done) is) ∙ goes);
-      next = ap (λ (x : Taping). x.entries.next) is;
-    }
+module _ (t : Tape) (output : Output) (e : Entries) (r : Taping) where
+  step_of : (written : Bool) → Ok r ≡ taped_turn t output e written → (r ≡ record { tape = t; output = output; entries = e }) × (t.number ≡ 0)
+  unfolding taping_or
+  step_of true is =
+      by_test (eqb t.number 0) (λ z. (ap (taping_or r) (simp z at is), eqb-true _ _ z)) (λ n. absurd (true≢false (ap is_ok (simp n at is))))
+  step_of false is =
+      by_test (eqb t.number 0) (λ z. absurd (true≢false (ap is_ok (simp z at is)))) (λ n. absurd (true≢false (ap is_ok (simp n at is))))
+
+pub bare_line : (t : Tape) (output : Output) (e : Entries) (r : Taping) → ((written : Bool) × (Ok r ≡ taped_turn t output (next_line e) written))
+    → Bare t e r
+bare_line t output e r turn =
+    let step = step_of t output (next_line e) r turn.0 turn.1 in
+    record { tape = ap (λ (x : Taping). x.tape) step.0; number = step.1; next = ap (λ (x : Taping). x.entries.next) step.0 }
 
 -- ---- the tape after a row, line by line
 module _ (room : ℕ) (row : List ℕ) where
@@ -101,9 +95,6 @@ row_left room n row t z = rw z refl
 
 -- ---- the end of a frame, line by line
 module _ (room : ℕ) where
-  pub frame_from : {n : ℕ} {t u v : Tape} → t ≡ u → FrameEnd room n t v → FrameEnd room n u v
-  frame_from {n} {t} {u} {v} e f = subst (λ (x : Tape). FrameEnd room n x v) e f
-
   pub frame_left : {n : ℕ} {t : Tape} → n ≡ 0 → FrameEnd room n t t
   frame_left {n} {t} z = subst (λ (k : ℕ). FrameEnd room k t t) (sym z) no_line_more
 

@@ -1,8 +1,7 @@
 -- What the packets file of `record` comes to, of the bytes that were filled of it.
-use Rattle.std.specs.Prelude.{ℕ, ◌+◌, ◌%◌, ◌^◌, Bool, true, false, cond, ◌&&◌, List, take, ◌==◌, nat_lt}
+use Rattle.std.specs.Prelude.{ℕ, ◌+◌, ◌%◌, ◌^◌, Bool, true, false, cond, ◌&&◌, List, take, ◌==◌, nat_lt, Result, Ok, Err}
 use Rattle.intake.specs.declared.Filled.{Filled}
-use Rattle.captions.specs.declared.Head.{Head}
-use Rattle.captions.specs.Entry.{head_length, head_judged}
+use Rattle.captions.specs.Entry.{Head, head_length, head_judged}
 use Rattle.station.specs.declared.entries.Next.{Next}
 use Rattle.station.specs.declared.entries.Next.TheVariants.{Nothing, Told, Bad, Lost}
 use Rattle.station.specs.declared.entries.Entries.{Entries}
@@ -64,14 +63,14 @@ head_taken e head filled =
 
 -- nothing for a space
 abbrev pub untaken_of : Entries → Taken
-untaken_of e = record { entries = e; count = 0; whole = true }
+untaken_of e = record { entries = e; count = 0 }
 
 -- nothing, since the words of an entry could not be had
-abbrev pub stopped_by : Entries → Next → Taken
-stopped_by e next = record { entries = with_next e next; count = 0; whole = false }
+abbrev pub stopped_by : Entries → Next → Result Taken Entries
+stopped_by e next = Err (with_next e next)
 
 -- The words of an entry, given what was filled of their bytes: "a file that ends inside an entry" makes it none.
-unfoldable pub words_taken : Entries → Filled → ℕ → ℕ → Taken
+unfoldable pub words_taken : Entries → Filled → ℕ → ℕ → Result Taken Entries
 words_taken e filled size count =
     cond filled.failed (stopped_by e Lost)
-    (cond (nat_lt filled.have size) (stopped_by e Bad) (record { entries = behind_entry e size; count = count; whole = true }))
+    (cond (nat_lt filled.have size) (stopped_by e Bad) (Ok (record { entries = behind_entry e size; count = count })))

@@ -1,23 +1,27 @@
 // `extract`: a recording in, the v210 rows of its V = 0 lines out, and the packets of its lines beside them; and `packets`, which lists those.
-ghost use Rattle.std.specs.Prelude.{◌≡◌, ◌≤◌, Bool, true, false, length};
+ghost use Rattle.std.specs.Prelude.{◌≡◌, ◌≤◌, Bool, length};
 ghost use Rattle.programme.specs.Extraction.{extraction_of};
-ghost use Rattle.console.specs.declared.Status.TheVariants.{Done};
 ghost use Rattle.station.specs.Turns.{unpacked, row_turn, extracted_turn, extract_turn, extracted_read};
 
 use crate::sidecar::Sidecar;
+use crate::turning::{Turn, Turning, take_turns};
 use confirmation::Run;
 use console::{Read, Status};
 use host::{Host, OUTPUT};
 use intake::Filled;
-use system::System625;
+use system::{Figures, System625};
 
-// The confirming program's run over the lines, what is kept beside the rows, whether it is done, and how it ended.
+// The confirming program's run over the lines, and what is kept beside the rows.
 #[derive(Clone, Copy)]
 struct Extracting {
     run: Run,
     sidecar: Sidecar,
-    done: bool,
-    status: Status,
+}
+
+impl Turning for Extracting {
+    fn show(self, host: &mut Host, is_shown: bool, turns: u64) {
+        console::show_turn(host, is_shown, turns, self.run.walk);
+    }
 }
 
 // What a recording came to, and what is kept beside its rows.
@@ -27,146 +31,102 @@ pub struct Extracted {
     pub sidecar: Sidecar,
 }
 
-fn open(run: Run, sidecar: Sidecar) -> Extracting
-    ensures { result ≡ record { run = run; sidecar = sidecar; done = false; status = Done } }
-{
-    Extracting {
-        run,
-        sidecar,
-        done: false,
-        status: Status::Done,
-    }
-}
-
-fn ended(run: Run, sidecar: Sidecar, status: Status) -> Extracting
-    ensures { result ≡ record { run = run; sidecar = sidecar; done = true; status = status } }
-{
-    Extracting {
-        run,
-        sidecar,
-        done: true,
-        status,
-    }
-}
-
 // How extracting ends where packets could not be put: the output failed that lists them, or the file, which is said by its name.
 fn unpacked_status(sidecar: Sidecar) -> Status
     ensures { result ≡ unpacked sidecar }
 {
-    if sidecar.listed {
+    if sidecar.are_listed() {
         return Status::Unwritten;
     }
     Status::Failed
 }
 
 // Writes a row, where it is to be written.
-fn put_row(host: &mut Host, run: Run, sidecar: Sidecar, writes: bool, row: &[u8]) -> Extracting
-    ensures { (written : Bool) × (result ≡ row_turn run sidecar writes written) }
+fn put_row(host: &mut Host, at: Extracting, writes: bool, row: &[u8]) -> Turn<Extracting, Status>
+    ensures { (written : Bool) × (result ≡ row_turn at writes written) }
 {
-    if !writes {
-        return open(run, sidecar);
+    if !writes || host.write_all(OUTPUT, row) {
+        return Ok(at);
     }
-    if host.write_all(OUTPUT, row) {
-        return open(run, sidecar);
-    }
-    ended(run, sidecar, Status::Unwritten)
+    Err(at.ended(Status::Unwritten))
 }
 
 // The run after a line's bytes, or what is left at the end, as `programme` decides; the packets that they have are put, and the row that they
 // give is written.
-fn put_line(host: &mut Host, run: Run, sidecar: Sidecar, bytes: &[u8], row: &mut [u8]) -> Extracting
-    ensures { (packed : Bool) × (written : Bool) × (result ≡ extracted_turn (extraction_of run bytes.now (length row.old)) sidecar packed written) }
+fn put_line(
+    host: &mut Host,
+    at: Extracting,
+    bytes: &[u8],
+    row: &mut [u8],
+) -> Turn<Extracting, Status>
+    ensures { (packed : Bool) × (written : Bool) × (result ≡ extracted_turn (extraction_of at.run bytes.now (length row.old)) at.sidecar packed written) }
 {
-    let extraction = programme::extract_next(run, bytes, row);
-    let next = extraction.run;
-    if next.number != 0 {
-        return ended(next, sidecar, Status::Refused);
+    let extraction = programme::extract_next(at.run, bytes, row);
+    let run = extraction.run;
+    if run.number != 0 {
+        return Err(Extracting { run, ..at }.ended(Status::Refused));
     }
-    let packets = extraction.packets;
-    let beside = sidecar.behind(packets);
-    if !sidecar.put(host, run.walk, bytes, packets) {
-        return ended(next, beside, unpacked_status(sidecar));
+    let next = Extracting {
+        run,
+        sidecar: at.sidecar.behind(extraction.packets),
+    };
+    if !at.sidecar.put(host, at.run.walk, bytes, extraction.packets) {
+        return Err(next.ended(unpacked_status(at.sidecar)));
     }
-    put_row(host, next, beside, extraction.gives & !sidecar.listed, row)
+    put_row(host, next, extraction.gives & !at.sidecar.are_listed(), row)
 }
 
 // What a turn makes of what was filled of a line.
+#[tactic(auto, unfolding(crate::specs::Turns::extract_turn))]
 fn turned(
     host: &mut Host,
-    run: Run,
-    sidecar: Sidecar,
+    at: Extracting,
     filled: Filled,
     line: &[u8],
     row: &mut [u8],
-) -> Extracting
+) -> Turn<Extracting, Status>
     requires { filled.have ≤ length line.now }
-    ensures { (packed : Bool) × (written : Bool) × (result ≡ extract_turn run sidecar filled line.now (length row.old) packed written) }
+    ensures { (packed : Bool) × (written : Bool) × (result ≡ extract_turn at filled line.now (length row.old) packed written) }
 {
     if filled.failed {
-        return ended(run, sidecar, Status::Unread);
+        return Err(at.ended(Status::Unread));
     }
-    let have = filled.have;
-    if have == 0 {
-        return ended(run, sidecar, Status::Done);
+    if filled.have == 0 {
+        return Err(at.ended(Status::Done));
     }
-    put_line(host, run, sidecar, &line[0..have], row)
+    put_line(host, at, &line[..filled.have], row)
 }
 
 // Takes one line of the input.
 fn take_line(
     host: &mut Host,
     input: i32,
-    run: Run,
-    sidecar: Sidecar,
+    at: Extracting,
     line: &mut [u8],
     row: &mut [u8],
-) -> Extracting {
+) -> Turn<Extracting, Status> {
     let filled = console::fill(host, input, line);
-    turned(host, run, sidecar, filled, line, row)
-}
-
-// Takes lines to the end of the input or the first refusal. An input that used the turns up would be unread.
-fn take_lines(
-    host: &mut Host,
-    input: i32,
-    run: Run,
-    sidecar: Sidecar,
-    line: &mut [u8],
-    row: &mut [u8],
-) -> Extracting {
-    let is_shown = console::is_shown(host);
-    let mut at = open(run, sidecar);
-    let mut turns = u64::MAX;
-    while turns > 0 {
-        at = take_line(host, input, at.run, at.sidecar, line, row);
-        turns = console::turns_left(turns, at.done);
-        let now = at.run;
-        console::show_turn(host, is_shown, turns, now.walk);
-    }
-    console::end_turns(host, is_shown);
-    at
+    turned(host, at, filled, line, row)
 }
 
 // What extracting comes to: unread where it did not come to an end.
-fn come_to(at: Extracting) -> Read
-    ensures { result ≡ extracted_read at }
+fn come_to(came: Turn<Extracting, Status>) -> Read
+    ensures { result ≡ extracted_read came }
 {
-    if at.done {
-        let run = at.run;
-        let status = at.status;
-        return Read { run, status };
+    match came {
+        Ok(at) => Read::unread(at.run),
+        Err(ended) => Read {
+            run: ended.at.run,
+            status: ended.how,
+        },
     }
-    Read::unread(at.run)
 }
 
 // Says that the packets file could not be written, where it could not.
 fn say_unpacked(host: &mut Host, status: Status, packets: &[u8]) {
-    match status {
-        Status::Failed => {
-            console::say_of(host, b"extract", packets);
-            host.fail(b" could not be written");
-        }
-        _ => {}
+    if matches!(status, Status::Failed) {
+        console::say_of(host, b"extract", packets);
+        host.fail(b" could not be written");
     }
 }
 
@@ -185,16 +145,17 @@ pub fn extract(
             sidecar,
         };
     }
-    let walk = run.walk;
-    let size = walk.line_bytes();
-    let mut line = [0u8; 2 * System625::LINE_LENGTH];
+    let mut room = [0u8; 2 * System625::LINE_LENGTH];
     let mut row = [0u8; v210::ROW_LENGTH];
-    let at = take_lines(host, input, run, sidecar, &mut line[0..size], &mut row);
-    let status = at.status;
-    let beside = at.sidecar;
-    say_unpacked(host, status, packets);
-    Extracted {
-        read: come_to(at),
-        sidecar: beside,
-    }
+    let line = &mut room[..run.walk.line_bytes()];
+    let came = take_turns(host, Extracting { run, sidecar }, |host, at| {
+        take_line(host, input, at, line, &mut row)
+    });
+    let read = come_to(came);
+    say_unpacked(host, read.status, packets);
+    let sidecar = match came {
+        Ok(at) => at.sidecar,
+        Err(ended) => ended.at.sidecar,
+    };
+    Extracted { read, sidecar }
 }

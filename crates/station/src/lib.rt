@@ -11,6 +11,7 @@ mod recorder;
 mod sidecar;
 mod taping;
 mod telling;
+mod turning;
 
 pub use coder::code_input;
 pub use extractor::{Extracted, extract};

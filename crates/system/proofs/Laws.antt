@@ -1,9 +1,12 @@
 -- Laws of the systems' figures and of the walk, for those who cite them. Assumes nothing.
-use Rattle.std.proofs.Common.{◌≡◌, ℕ, ◌+◌, ◌*◌, ◌%◌, ◌^◌, ◌<◌, ◌≤◌, Bool, true, false, eqb, ltb, leb, sym, refl, ap, ◌∙◌, arith, ltb-false, ltb-true, le-ltb, lt-ltb, eq-eqb, ne_eqb, eqb-true, le-leb, leb-false, leb-true}
+use Rattle.std.proofs.Common.{◌≡◌, ℕ, ◌+◌, ◌-◌, ◌*◌, ◌%◌, ◌^◌, ◌<◌, ◌≤◌, Bool, true, false, not, eqb, ltb, leb, sym, refl, ap, ◌∙◌, subst, arith, ltb-false, ltb-true, le-ltb, lt-ltb, eq-eqb, ne_eqb, eqb-true, le-leb, leb-false, leb-true}
 use borrow.Author.Tests.{lt-leb, eqb-false}
 use Rattle.refusal.specs.declared.Refusal.{Refusal}
 use Rattle.refusal.specs.Numbers.{no_system, no_line, wrong_length, bad_counts}
-use Rattle.refusal.specs.Answer.{none, or_else}
+use Rattle.refusal.specs.Answer.{none, refuse, or_else}
+use Rattle.refusal.specs.declared.Refused.{Refused}
+use Rattle.refusal.specs.Reasons.{number_of, numbered}
+use Rattle.refusal.proofs.Results.{reason_counts}
 use Rattle.refusal.proofs.Cases.{by_cond, by_test, not_false, and_true, or_neither}
 use Rattle.refusal.proofs.Firsts.{or_else_accepted, or_else_refused, or_else_none, same_number, not_made, length_due}
 use Rattle.timing.specs.declared.CodeReport.{CodeReport}
@@ -14,11 +17,13 @@ use Rattle.system.specs.declared.System.{System}
 use Rattle.system.specs.declared.System.TheVariants.{Lines525, Lines625}
 use Rattle.system.specs.declared.due.Due.{Due}
 use Rattle.system.specs.declared.walk.Walk.{Walk}
+use Rattle.system.specs.declared.walk.Fresh.{Fresh}
 use Rattle.system.specs.declared.walk.PacketWords.{PacketWords}
 use Rattle.system.specs.declared.walk.Judgement.{Judgement}
-use Rattle.system.specs.Figures.{line_length, sav_offset, active_offset, line_count, between, is_system, system_of, is_fall, next_line, turns_field}
+use Rattle.system.specs.Figures.{system_number, line_length, sav_offset, active_offset, line_count, between, is_system, system_of, is_fall, next_line, turns_field}
 use Rattle.system.specs.Due.{due_with, flag, flags_of}
 use Rattle.system.specs.Walk.{most_lines, is_line, named_refusal, written_refusal, walk_refusal, fresh_walk, fresh_of, standing_refusal, due_by, tally_with, advanced_of, moved_of}
+use Rattle.system.specs.Refusals.{NoSystem}
 use Rattle.system.specs.Judgement.{refused_at, accepted_at, judgement_of}
 
 -- ---- the figures fit each other, and are in range
@@ -61,6 +66,13 @@ between_first a b n e = leb-true a n (and_true (leb a n) (leb n b) e).0
 pub between_last : (a b n : ℕ) → between a b n ≡ true → n ≤ b
 between_last a b n e = leb-true n b (and_true (leb a n) (leb n b) e).1
 
+-- a line 263 lines behind, compared with the first field's
+pub lines_behind : (line fall : ℕ) → 264 ≤ line → ltb (line - 263) fall ≡ ltb line (fall + 263)
+lines_behind line fall later =
+    by_test (ltb line (fall + 263))
+    (λ t. lt-ltb (line - 263) fall (omega (arith, later, ltb-true line (fall + 263) t)) ∙ sym t)
+    (λ f. le-ltb (line - 263) fall (omega (arith, later, ltb-false line (fall + 263) f)) ∙ sym f)
+
 -- ---- a report tells of no more than two repairs
 at_most_one : (r : CodeReport) → repairs_in r ≤ 1
 at_most_one Clean = omega arith
@@ -87,6 +99,26 @@ module _ (number line : ℕ) where
   unfolding named_refusal or_else
   named_accepted a b = simp (a, b)
 
+  -- by what taking the system from its number tells
+  pub named_none : NoSystem number → named_refusal number line ≡ record { number = no_system; place = 0 }
+  unfolding is_system
+  named_none (a, b) = named_no_system (simp (ne_eqb number _ a, ne_eqb number _ b))
+
+  named_of : (s : System) → named_refusal (system_number s) line ≡ refuse (not (between 1 (line_count s) line)) no_line 0
+  unfolding named_refusal is_line is_system system_of or_else
+  named_of Lines525 = by_test (between 1 525 line) (λ t. simp t) (λ f. simp f)
+  named_of Lines625 = by_test (between 1 625 line) (λ t. simp t) (λ f. simp f)
+
+  module _ (s : System) (is : system_number s ≡ number) where
+    named_line : named_refusal number line ≡ refuse (not (between 1 (line_count s) line)) no_line 0
+    named_line = subst (λ (n : ℕ). named_refusal n line ≡ refuse (not (between 1 (line_count s) line)) no_line 0) is (named_of s)
+
+    pub named_outside : between 1 (line_count s) line ≡ false → named_refusal number line ≡ record { number = no_line; place = 0 }
+    named_outside f = named_line ∙ simp f
+
+    pub named_inside : between 1 (line_count s) line ≡ true → named_refusal number line ≡ none
+    named_inside t = named_line ∙ simp t
+
   -- and the other way round
   pub record Named : Type 0 where
     pub a_system : is_system number ≡ true
@@ -103,10 +135,19 @@ module _ (number line : ℕ) where
   unfolding fresh_of
   fresh_named e = simp (eq-eqb _ _ e)
 
-  pub fresh_refused : ((named_refusal number line).number ≡ 0 → ⊥)
-      → fresh_of number line ≡ record { number = (named_refusal number line).number; place = 0; walk = fresh_walk 0 0 }
+  named_place : (named_refusal number line).place ≡ 0
+  unfolding named_refusal or_else
+  named_place = by_test (is_system number) (λ a. by_test (is_line number line) (λ b. simp (a, b)) (λ b. simp (a, b))) (λ a. simp a)
+
+  pub fresh_refused : (r : Refused) → numbered r ≡ named_refusal number line
+      → fresh_of number line ≡ record { number = number_of r.reason; place = r.place; walk = fresh_walk 0 0 }
   unfolding fresh_of
-  fresh_refused n = simp (ne_eqb _ _ n)
+  fresh_refused r e =
+      simp (ne_eqb _ _ (λ z. reason_counts r.reason (same_number e ∙ z)))
+      (ap (λ (n : ℕ). zero_walk n 0) (sym (same_number e)) ∙ ap (zero_walk (number_of r.reason)) (sym (ap (λ (a : Refusal). a.place) e ∙ named_place)))
+    where
+      zero_walk : ℕ → ℕ → Fresh
+      zero_walk n p = record { number = n; place = p; walk = fresh_walk 0 0 }
 
   pub fresh_accepted : is_system number ≡ true → is_line number line ≡ true
       → fresh_of number line ≡ record { number = 0; place = 0; walk = fresh_walk number line }
@@ -140,30 +181,15 @@ pub record Good (w : Walk) : Type 0 where
   pub tally : w.tally ≤ w.repairs
 
 module _ (w : Walk) where
-  pub walk_named : ((named_refusal w.system w.line).number ≡ 0 → ⊥) → walk_refusal w ≡ named_refusal w.system w.line
+  pub walk_many_lines : (named_refusal w.system w.line).number ≡ 0 → most_lines ≤ w.lines → walk_refusal w ≡ record { number = bad_counts; place = 0 }
   unfolding walk_refusal
-  walk_named n = or_else_refused _ _ n
-
-  module _ (named : (named_refusal w.system w.line).number ≡ 0) where
-    pub walk_many_lines : most_lines ≤ w.lines → walk_refusal w ≡ record { number = bad_counts; place = 0 }
-    unfolding walk_refusal
-    walk_many_lines l = or_else_accepted _ _ named ∙ simp (le-leb _ _ l)
-
-    pub walk_many_repairs : w.lines < most_lines → 2 * w.lines < w.repairs → walk_refusal w ≡ record { number = bad_counts; place = 0 }
-    unfolding walk_refusal
-    walk_many_repairs l m = or_else_accepted _ _ named ∙ simp (lt-leb _ _ l, lt-ltb _ _ m)
-
-    module _ (l : w.lines < most_lines) (m : w.repairs ≤ 2 * w.lines) where
-      pub walk_high_tally : w.repairs < w.tally → walk_refusal w ≡ record { number = bad_counts; place = 0 }
-      unfolding walk_refusal
-      walk_high_tally t = or_else_accepted _ _ named ∙ simp (lt-leb _ _ l, le-ltb _ _ m, lt-ltb _ _ t)
-
-      pub walk_few : w.tally ≤ w.repairs → walk_refusal w ≡ none
-      unfolding walk_refusal
-      walk_few t = or_else_accepted _ _ named ∙ simp (lt-leb _ _ l, le-ltb _ _ m, le-ltb _ _ t)
+  walk_many_lines named l = or_else_accepted _ _ named ∙ simp (le-leb _ _ l)
 
   pub good_accepted : Good w → walk_refusal w ≡ none
-  good_accepted g = walk_few (same_number (named_accepted w.system w.line g.system g.line)) g.lines g.repairs g.tally
+  unfolding walk_refusal
+  good_accepted g =
+      or_else_accepted _ _ (same_number (named_accepted w.system w.line g.system g.line))
+      ∙ simp (lt-leb _ _ g.lines, le-ltb _ _ g.repairs, le-ltb _ _ g.tally)
 
   -- and the other way round
   pub accepted_good : (walk_refusal w).number ≡ 0 → Good w

@@ -2,7 +2,7 @@
 use Rattle.std.specs.Prelude.{ℕ, ◌+◌, ◌*◌, Bool, cond}
 use Rattle.system.specs.declared.System.{System}
 use Rattle.system.specs.declared.due.Due.{Due}
-use Rattle.system.specs.declared.due.FillWords.{FillWords}
+use Rattle.words.specs.declared.FillWords.{FillWords}
 use Rattle.system.specs.Figures.{v_written, f_of}
 
 -- "Fill, by offset in the line: 512 at even, 64 at odd offsets."

@@ -1,7 +1,10 @@
 -- When a fresh walk and a walk refuse, in the document's order: the tables that their answers keep to.
-use Rattle.std.specs.Prelude.{◌≡◌, ℕ, ◌*◌, ◌<◌, ◌≤◌, ◌⊎◌, ◌≢◌}
+use Rattle.std.specs.Prelude.{◌≡◌, ℕ, ◌*◌, ◌<◌, ◌≤◌, ◌⊎◌, ◌≢◌, Result, MatchResult}
+use Rattle.refusal.specs.declared.Refused.{Refused}
+use Rattle.refusal.specs.Reasons.{numbered}
 use Rattle.refusal.specs.Numbers.{no_system, no_line, wrong_length, bad_counts}
 use Rattle.refusal.specs.Table.{Row, when, ◌before◌}
+use Rattle.system.specs.declared.System.{System}
 use Rattle.system.specs.declared.System.TheVariants.{Lines525, Lines625}
 use Rattle.system.specs.declared.walk.Walk.{Walk}
 use Rattle.system.specs.Figures.{system_number, line_count, system_of}
@@ -10,6 +13,10 @@ use Rattle.system.specs.Walk.{most_lines}
 -- "system is neither 525 nor 625"
 abbrev pub NoSystem : ℕ → Type 0
 NoSystem number = (number ≢ system_number Lines525) × (number ≢ system_number Lines625)
+
+-- the system with this number, or refusal 1 where none has it
+abbrev pub Names : ℕ → Result System Refused → Type 0
+Names number r = MatchResult r (λ s. system_number s ≡ number) (λ refused. NoSystem number × (numbered refused ≡ record { number = no_system; place = 0 }))
 
 -- "line number outside 1 to 525, or 1 to 625"
 abbrev pub NoLine : ℕ → ℕ → Type 0

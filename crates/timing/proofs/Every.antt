@@ -2,7 +2,7 @@
 use mathlib.Core.Path.{◌≡◌, refl, sym, subst}
 use mathlib.Core.Bool.{Bool, true, false, cond}
 use mathlib.Core.Logic.{◌⊎◌, inl, inr, ⊎_elim}
-use Prim.Native.Nat.{ℕ, zero, suc, ◌+◌, ◌≤◌, ◌<◌}
+use Prim.Native.Nat.{ℕ, zero, suc, ◌+◌, ◌<◌}
 use native.Mathlib.Nat.{not-suc-le-zero, le_of_suc-le-suc}
 use native.Mathlib.Omega.{arith}
 use lib.Dec.{T}
@@ -66,15 +66,3 @@ lift3 m n l f t i j k hi hj hk = lift l (f i j) (lift2 m n (λ i j. every l (f i
 pub gather : (n : ℕ) (f : ℕ → Bool) → ((k : ℕ) → k < n → T (f k)) → T (every n f)
 gather zero f h = tt
 gather (suc n) f h = joined (f n) (every n f) (h n (omega arith)) (gather n f (λ k l. h k (omega arith)))
-
--- what the last arm of a `match` on a number knows: it is none of the n numbers below n, so where it is at most n it is n
-abbrev pub NoneBelow : ℕ → ℕ → Type 0
-NoneBelow zero k = Unit {0}
-NoneBelow (suc n) k = NoneBelow n k × (k ≡ n → ⊥)
-
-none_below : (n k : ℕ) → NoneBelow n k → n ≤ k
-none_below zero k none = omega arith
-none_below (suc n) k none = let least = none_below n k none.0 in omega (arith, none.1)
-
-pub the_last : (n k : ℕ) → k ≤ n → NoneBelow n k → k ≡ n
-the_last n k most none = let least = none_below n k none in omega arith

@@ -1,18 +1,21 @@
 -- Laws of the definitions that other proofs cite, each computed over all patterns and lifted. Assumes nothing.
 use Prim.Native.Nat.{ℕ, zero, suc, ◌/◌, ◌%◌, ◌<◌, ◌≤◌}
 use mathlib.Core.Path.{◌≡◌, refl, sym, ap, subst, ◌∙◌}
-use mathlib.Core.Bool.{Bool}
+use mathlib.Core.Bool.{Bool, true, false}
+use Rattle.std.proofs.lemmas.Bool.{false≢true}
 use native.Mathlib.Omega.{arith}
 use lib.Dec.{T, ltb, leb, eqb, eqb→eq, ltb→lt, leb→le, le→leb, lit<}
 use borrow.Author.Tests.{lt-ltb, le-ltb, ltb-true, ltb-false, eq-eqb, ne_eqb}
+use Rattle.std.specs.Prelude.{Option, Some}
+use Rattle.std.specs.Option.{unwrap_or}
 use Rattle.refusal.specs.Numbers.{number_bound}
 use Rattle.refusal.proofs.Cases.{by_cond, by_test}
 use Rattle.timing.specs.declared.Correction.{Correction}
 use Rattle.timing.specs.declared.Correction.TheVariants.{Clean, Repaired, Refused}
-use Rattle.timing.specs.Code.{seven_bits, legal_of, fourth_of, seven_of, distance_of, bit_of, correction_below, pattern_correction, correction_of}
+use Rattle.timing.specs.Code.{seven_bits, legal_of, fourth_of, seven_of, distance_of, bit_of, said_by, hopeless_of, correction_below, pattern_correction, correction_of}
 use Rattle.timing.specs.declared.CodeReport.{CodeReport}
 use Rattle.timing.specs.declared.CodeReport.TheVariants as report
-use Rattle.timing.specs.Report.{number_where, code_report_of, repairs_in}
+use Rattle.timing.specs.Report.{number_of, number_where, code_report_of, repairs_in}
 use Rattle.timing.proofs.Every.{both, both_left, both_right, implies, meet, every, lift, lift2, lift3}
 use Rattle.timing.proofs.Same.{same, same_to_eq}
 
@@ -54,6 +57,47 @@ unfolding correction_of
 clear_is_7 w h =
     let ten : w ≤ 1023 = omega arith in
     simp (le-ltb _ _ ten, eq-eqb (w / 512 % 2) 0 (omega arith))
+
+-- ---- why seven bits are refused
+is_refused : Correction → Bool
+is_refused (Clean fvh) = false
+is_refused (Repaired fvh bit) = false
+is_refused (Refused number) = true
+
+refused_below : (k p n : ℕ) → correction_below k p ≡ Refused n → hopeless_of p ≡ n
+unfolding correction_below is_refused
+refused_below zero p n e = ap number_of e
+refused_below (suc k) p n e =
+    by_test (eqb (distance_of p (legal_of k)) 0)
+    (λ t. absurd (false≢true (ap is_refused (rw t at e))))
+    (λ f. by_test (eqb (distance_of p (legal_of k)) 1)
+    (λ t. absurd (false≢true (ap is_refused (rw (f, t) at e))))
+    (λ g. refused_below k p n (rw (f, g) at e)))
+
+pub refused_as : (w p n : ℕ) → w / 512 ≡ 1 → p ≡ seven_of w → correction_of w ≡ Refused n → hopeless_of p ≡ n
+refused_as w p n h seven e = refused_below 8 p n (ap pattern_correction seven ∙ sym (by_pattern w h) ∙ e)
+
+-- ---- what one legal pattern says: it, or those below it, decide;
+pub said_below : (j k p : ℕ) → j ≡ suc k → correction_below j p ≡ unwrap_or (said_by k p) (correction_below k p)
+unfolding correction_below said_by
+said_below j k p e =
+    ap (λ (n : ℕ). correction_below n p) e
+    ∙ by_test (eqb (distance_of p (legal_of k)) 0) (λ t. simp t)
+    (λ f. by_test (eqb (distance_of p (legal_of k)) 1) (λ t. simp (f, t)) (λ g. simp (f, g)))
+
+-- and so each of the eight is right where it says something
+right : ℕ → ℕ → Bool
+right k p = same (unwrap_or (said_by k p) (pattern_correction p)) (pattern_correction p)
+
+right_all : T (every 8 (λ k. every 128 (right k)))
+unfolding right said_by correction_below
+right_all = tt
+
+pub said_right : (k w p : ℕ) (c : Correction) → k < 8 → w / 512 ≡ 1 → p ≡ seven_of w → Some c ≡ said_by k p → c ≡ correction_of w
+unfolding right
+said_right k w p c hk hw seven said =
+    ap (λ (o : Option Correction). unwrap_or o (pattern_correction (seven_of w))) (said ∙ ap (said_by k) seven)
+    ∙ same_to_eq _ _ (lift2 8 128 right right_all k (seven_of w) hk (omega arith)) ∙ sym (by_pattern w hw)
 
 -- ---- what is found of seven bits that lie at a distance from the legal pattern of F, V, H
 abbrev pub found : ℕ → ℕ → ℕ → Correction

@@ -1,7 +1,9 @@
 -- Document 01, "Numbers and layout" (the fourth word) and "Correction"; document 02, L5.
-use Rattle.std.specs.Prelude.{ℕ, zero, suc, ◌+◌, ◌*◌, ◌/◌, ◌%◌, cond, ltb, eqb}
+use Rattle.std.specs.Prelude.{ℕ, zero, suc, ◌+◌, ◌*◌, ◌/◌, ◌%◌, cond, ltb, eqb, Option, Some, None, Result, MatchResult, ◌≡◌}
 use Rattle.std.specs.Int.Bits.{bit_xor}
 use Rattle.std.specs.Int.Count.{ones, count_trailing_zeros}
+use Rattle.refusal.specs.declared.Reason.{Reason}
+use Rattle.refusal.specs.Reasons.{number_of}
 use Rattle.refusal.specs.Numbers.{over_ten, bit_nine, hopeless_even, hopeless_odd}
 use Rattle.words.specs.Words.{most_word}
 use Rattle.timing.specs.declared.Correction.{Correction}
@@ -49,6 +51,13 @@ bit_of p q = count_trailing_zeros 32 (bit_xor p q) + 2
 abbrev pub by_distance : ℕ → Correction → Correction → Correction → Correction
 by_distance distance clean repaired others = cond (eqb distance 0) clean (cond (eqb distance 1) repaired others)
 
+-- what the legal pattern of F, V, H alone says of seven bits: nothing, where it is further away than one bit
+unfoldable pub said_by : ℕ → ℕ → Option Correction
+unfolding legal_of distance_of bit_of
+said_by fvh p =
+    cond (eqb (distance_of p (legal_of fvh)) 0) (Some (Clean fvh))
+    (cond (eqb (distance_of p (legal_of fvh)) 1) (Some (Repaired fvh (bit_of p (legal_of fvh)))) None)
+
 -- "the two kinds of hopeless code": 8 with "an even number of ones", 14 with "an odd number"
 unfoldable pub hopeless_of : ℕ → ℕ
 unfolding ones
@@ -70,3 +79,7 @@ unfoldable pub correction_of : ℕ → Correction
 unfolding correction_below
 correction_of word =
     cond (ltb most_word word) (Refused over_ten) (cond (eqb (word / 512 % 2) 0) (Refused bit_nine) (pattern_correction (seven_of word)))
+
+-- the seven bits of a word that is corrected by them, or why it is not
+abbrev pub Bits : ℕ → Result ℕ Reason → Type 0
+Bits word r = MatchResult r (λ seven. (word / 512 ≡ 1) × (seven ≡ seven_of word)) (λ reason. correction_of word ≡ Refused (number_of reason))

@@ -3,7 +3,7 @@
 use Rattle.std.specs.Prelude.{ℕ, ◌+◌, ◌*◌, ◌/◌, ◌%◌, List, [], ◌∷◌, cond, not, length, get_or, eqb}
 use Rattle.refusal.specs.declared.Refusal.{Refusal}
 use Rattle.refusal.specs.Numbers.{wrong_length}
-use Rattle.refusal.specs.Answer.{refuse, written_by, first_of, first_from}
+use Rattle.refusal.specs.Answer.{refuse, written_by, or_else, first_of, first_from}
 use Rattle.words.specs.Words.{tab, fault_over, over_refusal}
 use Rattle.line.specs.Samples.{active_length}
 
@@ -57,6 +57,11 @@ spare_at row k = fault_over most_row_word (row_word row k)
 
 unfoldable pub spare_refusal : List ℕ → Refusal
 spare_refusal row = first_from (spare_at row) 0 row_words
+
+-- 3 at 0 where what is read has another length than is due, and at 1 where the room for it has
+unfoldable pub lengths_refusal : ℕ → ℕ → ℕ → ℕ → Refusal
+lengths_refusal read read_due room room_due =
+    or_else (refuse (not (eqb read read_due)) wrong_length 0) (refuse (not (eqb room room_due)) wrong_length 1)
 
 -- unpacking: 3 at 0 for the row and at 1 for the samples, then 5
 unfoldable pub unpack_refusal : List ℕ → ℕ → Refusal

@@ -1,119 +1,108 @@
 // The options of `record` and `extract`.
-use crate::arguments::{FIRST, NO_NUMBER, is_option, number, same};
+use crate::arguments::{FIRST, is_number, is_option, number};
+use crate::help::Verb;
 use crate::wrong;
+use crate::wrong::Failed;
 use host::Host;
-use std::num::wrapping_add_usize;
 
-// Which arguments the options name, or 0, and where the options end. Those of `record` are more.
+// What the options give: the arguments that name a folder and a packets file, two numbers, and where the options end.
 #[derive(Clone, Copy)]
 pub(crate) struct Options {
-    pub(crate) is_recording: bool,
-    pub(crate) folder: usize,
-    pub(crate) frames: usize,
-    pub(crate) packets: usize,
-    pub(crate) fall: usize,
+    pub(crate) folder: Option<usize>,
+    pub(crate) frames: Option<u32>,
+    pub(crate) packets: Option<usize>,
+    pub(crate) fall: Option<u32>,
     pub(crate) end: usize,
-    is_open: bool,
-    is_unknown: bool,
 }
 
-// Whether an option names an argument that is no number.
-fn is_no_number(host: &mut Host, index: usize) -> bool {
-    index != 0 && number(host, index) == NO_NUMBER
+// The arguments that the options name so far, and where they end.
+#[derive(Clone, Copy)]
+struct Named {
+    folder: Option<usize>,
+    frames: Option<usize>,
+    packets: Option<usize>,
+    fall: Option<usize>,
+    end: usize,
 }
 
 // The argument that gives an option's number where it is named again: the later one, but what is no number is kept, to be told.
-fn number_at(host: &mut Host, before: usize, value: usize) -> usize {
-    if is_no_number(host, before) {
-        return before;
+fn number_at(host: &mut Host, before: Option<usize>, value: usize) -> Option<usize> {
+    match before {
+        Some(index) if !is_number(host, index) => before,
+        _ => Some(value),
     }
-    value
 }
 
-// The options with this text more, which stands at their end.
-fn with_option(host: &mut Host, options: Options, text: &[u8]) -> Options {
-    let mut next = options;
-    let value = wrapping_add_usize(options.end, 1);
-    next.end = wrapping_add_usize(value, 1);
-    if same(text, b"--packets") {
-        next.packets = value;
-        return next;
+impl Named {
+    // Takes the text at the end, where that is an option of the verb. True where it is: those of `record` are more.
+    fn take(&mut self, host: &mut Host, verb: Verb, text: &[u8]) -> bool {
+        let value = self.end.wrapping_add(1);
+        match text {
+            b"--packets" => self.packets = Some(value),
+            b"--into" if verb == Verb::Record => self.folder = Some(value),
+            b"--frames" if verb == Verb::Record => {
+                self.frames = number_at(host, self.frames, value);
+            }
+            b"--fall" if verb == Verb::Record => self.fall = number_at(host, self.fall, value),
+            _ => return false,
+        }
+        self.end = value.wrapping_add(1);
+        true
     }
-    if options.is_recording && same(text, b"--into") {
-        next.folder = value;
-        return next;
+
+    // Reads the options: there are not more of them than arguments.
+    fn read(host: &mut Host, verb: Verb) -> Named {
+        let mut named = Named {
+            folder: None,
+            frames: None,
+            packets: None,
+            fall: None,
+            end: FIRST,
+        };
+        for _ in 0..host.argument_count() {
+            let mut room = io::buffer();
+            let text = host.argument(named.end, &mut room).unwrap_or_default();
+            if !named.take(host, verb, text) {
+                break;
+            }
+        }
+        named
     }
-    if options.is_recording && same(text, b"--frames") {
-        next.frames = number_at(host, options.frames, value);
-        return next;
-    }
-    if options.is_recording && same(text, b"--fall") {
-        next.fall = number_at(host, options.fall, value);
-        return next;
-    }
-    next.is_open = false;
-    next.end = options.end;
-    if same(text, b"--") {
-        next.end = value;
-        return next;
-    }
-    next.is_unknown = is_option(text);
-    next
 }
 
-fn next_option(host: &mut Host, options: Options) -> Options {
-    let mut text = io::buffer();
-    let length = host.argument(options.end, &mut text);
-    with_option(host, options, &text[..length])
+// The number of an option, where it is named.
+fn number_of(host: &mut Host, verb: Verb, index: Option<usize>) -> Result<Option<u32>, Failed> {
+    match index {
+        Some(index) => Ok(Some(number(host, verb, index)?)),
+        None => Ok(None),
+    }
 }
 
-// Reads the options: there are not more of them than arguments.
-pub(crate) fn read_options(host: &mut Host, is_recording: bool) -> Options {
-    let mut options = Options {
-        is_recording,
-        folder: 0,
-        frames: 0,
-        packets: 0,
-        fall: 0,
-        end: FIRST,
-        is_open: true,
-        is_unknown: false,
-    };
-    let mut left = host.argument_count();
-    while left > 0 && options.is_open {
-        options = next_option(host, options);
-        left -= 1;
+// Reads the options, or says what is wrong with them, from left to right, and with their sense.
+pub(crate) fn read_options(host: &mut Host, verb: Verb) -> Result<Options, Failed> {
+    let named = Named::read(host, verb);
+    let mut room = io::buffer();
+    let text = host.argument(named.end, &mut room).unwrap_or_default();
+    let is_ended = matches!(text, b"--");
+    if host.argument_count() < named.end {
+        return Err(wrong::missing(host, verb));
     }
-    options
-}
-
-// What is wrong with the options' sense, or 0: `--frames` alone, or of none.
-fn frames_wrong(host: &mut Host, options: Options, verb: &[u8]) -> u32 {
-    if options.frames == 0 {
-        return 0;
+    let frames = number_of(host, verb, named.frames)?;
+    let fall = number_of(host, verb, named.fall)?;
+    if !is_ended && is_option(text) {
+        return Err(wrong::no_option(host, verb, named.end));
     }
-    if options.folder == 0 {
-        return wrong::said(host, verb, b"--frames goes with --into\n");
+    if frames.is_some() && named.folder.is_none() {
+        return Err(wrong::said(host, verb, b"--frames goes with --into\n"));
     }
-    if number(host, options.frames) == 0 {
-        return wrong::said(host, verb, b"--frames takes 1 or more\n");
+    if frames == Some(0) {
+        return Err(wrong::said(host, verb, b"--frames takes 1 or more\n"));
     }
-    0
-}
-
-// What is wrong with the options, from left to right, or 0.
-pub(crate) fn options_wrong(host: &mut Host, options: Options, verb: &[u8], count: usize) -> u32 {
-    if count < options.end {
-        return wrong::missing(host, verb);
-    }
-    if is_no_number(host, options.frames) {
-        return wrong::no_number(host, verb, options.frames);
-    }
-    if is_no_number(host, options.fall) {
-        return wrong::no_number(host, verb, options.fall);
-    }
-    if options.is_unknown {
-        return wrong::no_option(host, verb, options.end);
-    }
-    frames_wrong(host, options, verb)
+    Ok(Options {
+        folder: named.folder,
+        frames,
+        packets: named.packets,
+        fall,
+        end: named.end.wrapping_add(usize::from(is_ended)),
+    })
 }

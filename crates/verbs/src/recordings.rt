@@ -1,75 +1,56 @@
 // `confirm`, `extract` and `packets`: recordings by name, in folders, or on standard input.
-use crate::arguments::names_from;
-use crate::options::{options_wrong, read_options};
+use crate::arguments::{UNREAD, name, names_from, open, text};
+use crate::help::Verb;
+use crate::options::read_options;
 use crate::tally::{Tally, Task};
+use crate::wrong::Failed;
 use crate::{beside, wrong};
+use arrayvec::ArrayVec;
 use confirmation::Run;
 use console::{Read, Status};
-use host::{ERRORS, Host, INPUT, MISSING, OUTPUT};
+use host::{ERRORS, Host, INPUT, OUTPUT};
 use station::{Extracted, Sidecar};
-use std::num::{wrapping_add_u32, wrapping_add_usize};
+use std::io::ErrorKind;
 
-const CONFIRMING: Task = Task {
-    is_extracting: false,
-    rows: OUTPUT,
-};
+// Room for the path of a recording in a folder.
+const ROOM: usize = 4096;
 
-// Standard output takes the rows of the picture, or the list of packets, so what is said of recordings goes to standard error.
-const EXTRACTING: Task = Task {
-    is_extracting: true,
-    rows: ERRORS,
-};
-
-// Confirms or extracts the lines behind a header, where that could be read, with the packets file of this name, where there is one.
-fn read_on(
-    host: &mut Host,
-    task: Task,
-    input: i32,
-    begun: Read,
-    sidecar: Sidecar,
-    packets: &[u8],
-) -> Extracted {
-    let run = begun.run;
-    let status = begun.status;
+// Confirms or extracts the lines behind a header, where that could be read.
+fn read_on(host: &mut Host, task: Task, input: i32, begun: Read, sidecar: Sidecar) -> Extracted {
+    let Read { run, status } = begun;
     match status {
         Status::Unread => Extracted {
             read: Read::unread(run),
             sidecar,
         },
-        _ => {
-            if task.is_extracting {
-                return station::extract(host, input, run, sidecar, packets);
-            }
-            Extracted {
-                read: confirm::confirm(host, input, run),
-                sidecar,
-            }
-        }
+        _ if task.is_extracting() => station::extract(host, input, run, sidecar, task.packets),
+        _ => Extracted {
+            read: confirm::confirm(host, input, run),
+            sidecar,
+        },
     }
 }
 
 // Says the five lines of a run, and why it was refused. Answers the exit status.
-fn tell(host: &mut Host, task: Task, verb: &[u8], name: &[u8], run: Run) -> u32 {
+fn tell(host: &mut Host, task: Task, name: &[u8], run: Run) -> Result<u32, Failed> {
     let outcome = run.outcome();
-    if !console::print_outcome(host, task.rows, outcome) {
-        console::say_unwritten(host, verb);
-        return 2;
+    if !console::print_outcome(host, task.output(), outcome) {
+        return Err(task.unwritten(host));
     }
     if run.number == 0 {
-        return 0;
+        return Ok(0);
     }
-    console::say_refused(host, verb, name, outcome);
-    1
+    console::say_refused(host, task.verb.name(), name, outcome);
+    Ok(1)
 }
 
 // What is said of one recording by itself, and the exit status.
-fn tell_alone(host: &mut Host, task: Task, verb: &[u8], name: &[u8], read: Read) -> u32 {
-    let status = read.status;
-    status.say_failure(host, verb, name);
+fn tell_alone(host: &mut Host, task: Task, name: &[u8], read: Read) -> Result<u32, Failed> {
+    let Read { run, status } = read;
+    status.say_failure(host, task.verb.name(), name);
     match status {
-        Status::Done => tell(host, task, verb, name, read.run),
-        Status::Refused => tell(host, task, verb, name, read.run),
-        _ => 2,
+        Status::Done | Status::Refused => tell(host, task, name, run),
+        _ => Err(Failed),
     }
 }
 
@@ -77,98 +58,72 @@ fn tell_alone(host: &mut Host, task: Task, verb: &[u8], name: &[u8], read: Read)
 fn alone(
     host: &mut Host,
     task: Task,
-    verb: &[u8],
     input: i32,
     name: &[u8],
     sidecar: Sidecar,
-    packets: &[u8],
-) -> u32 {
+) -> Result<u32, Failed> {
     let begun = console::begin(host, input);
-    let extracted = read_on(host, task, input, begun, sidecar, packets);
-    let status = tell_alone(host, task, verb, name, extracted.read);
+    let extracted = read_on(host, task, input, begun, sidecar);
+    let status = tell_alone(host, task, name, extracted.read);
     beside::say_left(host, extracted.sidecar);
     status
 }
 
-fn standard_input(
-    host: &mut Host,
-    task: Task,
-    verb: &[u8],
-    sidecar: Sidecar,
-    packets: &[u8],
-) -> u32 {
-    console::say_waits(host, verb, b"a recording");
-    alone(host, task, verb, INPUT, b"", sidecar, packets)
+fn standard_input(host: &mut Host, task: Task, sidecar: Sidecar) -> Result<u32, Failed> {
+    console::say_waits(host, task.verb.name(), b"a recording");
+    alone(host, task, INPUT, b"", sidecar)
 }
 
-fn file_alone(
+// One of several recordings, open as this file and with this header, where there is still something to do.
+fn put_open(
     host: &mut Host,
-    task: Task,
-    verb: &[u8],
+    file: i32,
+    begun: Read,
     name: &[u8],
-    sidecar: Sidecar,
-    packets: &[u8],
-) -> u32 {
-    let file = host.open_read(name);
-    if file < 0 {
-        console::say_unopened(host, verb, name);
-        return 2;
+    tally: &mut Tally,
+) -> Result<(), Failed> {
+    let mut added = Ok(());
+    if tally.is_open() {
+        let extracted = read_on(host, tally.task, file, begun, tally.sidecar);
+        added = tally.add(host, name, extracted);
     }
-    alone(host, task, verb, file, name, sidecar, packets)
-}
-
-// One of several recordings.
-fn put_file(
-    host: &mut Host,
-    task: Task,
-    verb: &[u8],
-    name: &[u8],
-    packets: &[u8],
-    tally: Tally,
-) -> Tally {
-    let file = host.open_read(name);
-    if file < 0 {
-        console::say_unopened(host, verb, name);
-        return tally.with_unread(host, task, verb, name);
-    }
-    let begun = console::begin(host, file);
-    let extracted = read_on(host, task, file, begun, tally.sidecar, packets);
-    let next = tally.with_extracted(host, task, verb, name, extracted);
     host.close(file);
-    next
+    added
+}
+
+fn put_file(host: &mut Host, name: &[u8], tally: &mut Tally) -> Result<(), Failed> {
+    match open(host, tally.task.verb, name) {
+        Ok(file) => {
+            let begun = console::begin(host, file);
+            put_open(host, file, begun, name, tally)
+        }
+        Err(_) => tally.add_unread(host, name),
+    }
 }
 
 // Says why a recording of a folder could not be opened: it is missing, or as the system has it.
-fn say_unopened_piece(host: &mut Host, verb: &[u8], name: &[u8]) {
-    if host.error() == MISSING {
-        console::say_of(host, verb, name);
+fn say_unopened_piece(host: &mut Host, verb: Verb, name: &[u8]) {
+    if host.error() == ErrorKind::NotFound {
+        console::say_of(host, verb.name(), name);
         host.write_all(ERRORS, b" is missing\n");
         return;
     }
-    console::say_unopened(host, verb, name);
+    console::say_unopened(host, verb.name(), name);
 }
 
 fn say_line(host: &mut Host, text: &[u8], line: u32, system: u32) {
-    console::say(host, ERRORS, text, line as u64);
-    console::say(host, ERRORS, b" of ", system as u64);
+    console::say(host, ERRORS, text, u64::from(line));
+    console::say(host, ERRORS, b" of ", u64::from(system));
 }
 
 // Says that a recording does not go on where the one before ended.
-fn say_break(
-    host: &mut Host,
-    verb: &[u8],
-    folder: &[u8],
-    number: u32,
-    name: &[u8],
-    before: Run,
-    run: Run,
-) {
-    let awaited = before.walk;
-    console::say_of(host, verb, name);
+fn say_break(host: &mut Host, tally: &Tally, folder: &[u8], number: u32, name: &[u8], run: Run) {
+    let before = tally.before;
+    console::say_of(host, tally.task.verb.name(), name);
     host.write_all(ERRORS, b" does not follow on ");
     folder::say_name(host, ERRORS, folder, number);
     say_line(host, b": it starts with line ", run.start, run.system);
-    say_line(host, b", and line ", awaited.line, before.system);
+    say_line(host, b", and line ", before.walk.line, before.system);
     host.write_all(ERRORS, b" is awaited\n");
 }
 
@@ -177,290 +132,167 @@ fn is_break(before: Run, run: Run) -> bool {
     before.number == 0 && run.number == 0 && !confirmation::follows_on(before, run)
 }
 
-// The recording behind this number in a folder, open as this file.
-fn put_open(
+// The recording behind this number in a folder, open as this file: whether it follows on the one before, and what it comes to.
+fn put_follower(
     host: &mut Host,
-    task: Task,
-    verb: &[u8],
     folder: &[u8],
     number: u32,
     file: i32,
     name: &[u8],
-    packets: &[u8],
-    tally: Tally,
-) -> Tally {
+    tally: &mut Tally,
+) -> Result<(), Failed> {
     let begun = console::begin(host, file);
-    let run = begun.run;
-    let mut next = tally;
-    if is_break(tally.before, run) {
-        say_break(host, verb, folder, number, name, tally.before, run);
-        next = tally.marred(task, 1);
+    if is_break(tally.before, begun.run) {
+        say_break(host, tally, folder, number, name, begun.run);
+        tally.mar(1);
     }
-    if next.is_open {
-        let extracted = read_on(host, task, file, begun, next.sidecar, packets);
-        next = next.with_extracted(host, task, verb, name, extracted);
-    }
-    host.close(file);
-    next
+    put_open(host, file, begun, name, tally)
 }
 
-// The recording behind this number in a folder, by way of room for its path.
-fn put_piece_by(
-    host: &mut Host,
-    task: Task,
-    verb: &[u8],
-    folder: &[u8],
-    number: u32,
-    path: &mut [u8],
-    packets: &[u8],
-    tally: Tally,
-) -> Tally {
-    let opened = folder::open(host, folder, wrapping_add_u32(number, 1), path);
-    let length = opened.length;
-    if opened.file < 0 {
-        say_unopened_piece(host, verb, &path[0..length]);
-        return tally.with_unread(host, task, verb, &path[0..length]);
-    }
-    put_open(
-        host,
-        task,
-        verb,
-        folder,
-        number,
-        opened.file,
-        &path[0..length],
-        packets,
-        tally,
-    )
-}
-
-fn put_piece(
-    host: &mut Host,
-    task: Task,
-    verb: &[u8],
-    folder: &[u8],
-    number: u32,
-    packets: &[u8],
-    tally: Tally,
-) -> Tally {
-    let mut path = io::buffer();
-    put_piece_by(host, task, verb, folder, number, &mut path, packets, tally)
-}
-
-// The recordings 1 to last of a folder, in turn.
-fn put_pieces(
-    host: &mut Host,
-    task: Task,
-    verb: &[u8],
-    folder: &[u8],
-    last: u32,
-    packets: &[u8],
-    tally: Tally,
-) -> Tally {
-    let mut next = tally;
-    for number in 0..last {
-        if next.is_open {
-            next = put_piece(host, task, verb, folder, number, packets, next);
+// The recording behind this number in a folder.
+fn put_piece(host: &mut Host, folder: &[u8], number: u32, tally: &mut Tally) -> Result<(), Failed> {
+    let mut path = ArrayVec::<u8, ROOM>::new();
+    let opened = folder::open(host, folder, number.wrapping_add(1), &mut path);
+    let name = path.as_slice();
+    match opened {
+        Some(file) => put_follower(host, folder, number, file, name, tally),
+        None => {
+            say_unopened_piece(host, tally.task.verb, name);
+            tally.add_unread(host, name)
         }
     }
-    next
 }
 
 // A folder: one programme in a row of recordings.
-fn put_folder(
-    host: &mut Host,
-    task: Task,
-    verb: &[u8],
-    folder: &[u8],
-    packets: &[u8],
-    tally: Tally,
-) -> Tally {
-    let last = folder::last(host, folder);
-    if last == 0 {
-        console::say_of(host, verb, folder);
+fn put_folder(host: &mut Host, folder: &[u8], tally: &mut Tally) -> Result<(), Failed> {
+    let Some(last) = folder::last(host, folder) else {
+        console::say_of(host, tally.task.verb.name(), folder);
         host.write_all(
             ERRORS,
             b" holds no numbered recordings (0001.rec and so on)\n",
         );
-        return tally.with_unread(host, task, verb, folder);
+        return tally.add_unread(host, folder);
+    };
+    tally.part();
+    for number in 0..last {
+        if tally.is_open() {
+            put_piece(host, folder, number, tally)?;
+        }
     }
-    put_pieces(host, task, verb, folder, last, packets, tally.apart())
+    Ok(())
 }
 
-// One of several arguments: a recording or a folder.
-fn put_named(
-    host: &mut Host,
-    task: Task,
-    verb: &[u8],
-    name: &[u8],
-    packets: &[u8],
-    tally: Tally,
-) -> Tally {
+// One of several arguments: a recording or a folder. One that is longer than any path names nothing.
+fn put_argument(host: &mut Host, index: usize, tally: &mut Tally) -> Result<(), Failed> {
+    let mut room = io::buffer();
+    let Ok(name) = text(host, tally.task.verb, index, &mut room, UNREAD) else {
+        return tally.add_unread(host, b"");
+    };
     if folder::is_folder(host, name) {
-        return put_folder(host, task, verb, name, packets, tally);
+        return put_folder(host, name, tally);
     }
-    put_file(host, task, verb, name, packets, tally)
-}
-
-// The same of an argument. One that is longer than any path names nothing.
-fn put_argument(
-    host: &mut Host,
-    task: Task,
-    verb: &[u8],
-    index: usize,
-    packets: &[u8],
-    tally: Tally,
-) -> Tally {
-    let mut name = io::buffer();
-    let length = host.argument(index, &mut name);
-    if host.error() != 0 {
-        console::say_unopened(host, verb, b"");
-        return tally.with_unread(host, task, verb, b"");
-    }
-    put_named(host, task, verb, &name[..length], packets, tally)
+    put_file(host, name, tally)
 }
 
 // All arguments from one on.
+fn put_all(host: &mut Host, first: usize, tally: &mut Tally) -> Result<u32, Failed> {
+    for index in first..host.argument_count() {
+        if tally.is_open() {
+            put_argument(host, index, tally)?;
+        }
+    }
+    tally.end(host)
+}
+
+// The same, and what is left of their packets.
 fn put_arguments(
     host: &mut Host,
     task: Task,
-    verb: &[u8],
     first: usize,
     sidecar: Sidecar,
-    packets: &[u8],
-) -> u32 {
-    let mut tally = Tally::none(sidecar);
-    for index in first..host.argument_count() {
-        if tally.is_open {
-            tally = put_argument(host, task, verb, index, packets, tally);
-        }
-    }
-    let status = tally.ended(host, task, verb);
+) -> Result<u32, Failed> {
+    let mut tally = Tally::none(task, sidecar);
+    let status = put_all(host, first, &mut tally);
     beside::say_left(host, tally.sidecar);
     status
 }
 
 // The one argument that there is: a recording has its five lines.
-fn put_only(
-    host: &mut Host,
-    task: Task,
-    verb: &[u8],
-    name: &[u8],
-    index: usize,
-    sidecar: Sidecar,
-    packets: &[u8],
-) -> u32 {
+fn put_only(host: &mut Host, task: Task, index: usize, sidecar: Sidecar) -> Result<u32, Failed> {
+    let mut room = io::buffer();
+    let name = text(host, task.verb, index, &mut room, UNREAD)?;
     if folder::is_folder(host, name) {
-        return put_arguments(host, task, verb, index, sidecar, packets);
+        return put_arguments(host, task, index, sidecar);
     }
-    file_alone(host, task, verb, name, sidecar, packets)
-}
-
-fn put_only_argument(
-    host: &mut Host,
-    task: Task,
-    verb: &[u8],
-    index: usize,
-    sidecar: Sidecar,
-    packets: &[u8],
-) -> u32 {
-    let mut name = io::buffer();
-    let length = host.argument(index, &mut name);
-    if host.error() != 0 {
-        console::say_unopened(host, verb, b"");
-        return 2;
-    }
-    put_only(host, task, verb, &name[..length], index, sidecar, packets)
-}
-
-pub(crate) fn confirm(host: &mut Host) -> u32 {
-    let first = names_from(host, b"confirm");
-    if first == 0 {
-        return 2;
-    }
-    let count = host.argument_count();
-    if count <= first {
-        return standard_input(host, CONFIRMING, b"confirm", Sidecar::NONE, b"");
-    }
-    if count - first == 1 {
-        return put_only_argument(host, CONFIRMING, b"confirm", first, Sidecar::NONE, b"");
-    }
-    put_arguments(host, CONFIRMING, b"confirm", first, Sidecar::NONE, b"")
+    let file = open(host, task.verb, name)?;
+    alone(host, task, file, name, sidecar)
 }
 
 // The recording or folder that an argument names, or standard input, where there is no more argument.
-fn read_one(host: &mut Host, verb: &[u8], first: usize, sidecar: Sidecar, packets: &[u8]) -> u32 {
+fn read_one(host: &mut Host, task: Task, first: usize, sidecar: Sidecar) -> Result<u32, Failed> {
     if host.argument_count() <= first {
-        return standard_input(host, EXTRACTING, verb, sidecar, packets);
+        return standard_input(host, task, sidecar);
     }
-    put_only_argument(host, EXTRACTING, verb, first, sidecar, packets)
-}
-
-// The same, with the packets file that an argument names.
-fn extract_beside(host: &mut Host, first: usize, index: usize) -> u32 {
-    let mut packets = io::buffer();
-    let length = host.argument(index, &mut packets);
-    if host.error() != 0 {
-        console::say_of(host, b"extract", b"");
-        host.fail(b"FILE could not be written");
-        return 2;
-    }
-    if length == 0 {
-        return wrong::missing(host, b"extract");
-    }
-    let file = beside::make(host, &packets[..length]);
-    if file < 0 {
-        return 2;
-    }
-    if file == OUTPUT {
-        return beside::without_output(host);
-    }
-    let status = read_one(
-        host,
-        b"extract",
-        first,
-        Sidecar::of(file),
-        &packets[..length],
-    );
-    if beside::is_closed(host, file, &packets[..length]) {
-        return status;
-    }
-    2
+    put_only(host, task, first, sidecar)
 }
 
 // Whether there are more arguments than the one from here on that a verb takes.
-fn is_more_than_one(first: usize, count: usize) -> bool {
-    first < count && 1 < count - first
+fn is_more_than_one(host: &Host, first: usize) -> bool {
+    1 < host.argument_count().saturating_sub(first)
 }
 
-pub(crate) fn extract(host: &mut Host) -> u32 {
-    let options = read_options(host, false);
-    let count = host.argument_count();
-    let status = options_wrong(host, options, b"extract", count);
-    if status != 0 {
-        return status;
+// A verb that takes no packets file.
+fn task_of(verb: Verb) -> Task<'static> {
+    Task { verb, packets: b"" }
+}
+
+pub(crate) fn confirm(host: &mut Host) -> Result<u32, Failed> {
+    let first = names_from(host, Verb::Confirm)?;
+    let task = task_of(Verb::Confirm);
+    if is_more_than_one(host, first) {
+        return put_arguments(host, task, first, Sidecar::NONE);
     }
+    read_one(host, task, first, Sidecar::NONE)
+}
+
+// Extracts with the packets file that an argument names.
+fn extract_beside(host: &mut Host, first: usize, index: usize) -> Result<u32, Failed> {
+    let mut room = io::buffer();
+    let failure = b"FILE could not be written";
+    let packets = name(host, Verb::Extract, index, &mut room, failure)?;
+    let file = beside::make(host, packets)?;
+    if file == OUTPUT {
+        return Err(beside::without_output(host));
+    }
+    let task = Task {
+        verb: Verb::Extract,
+        packets,
+    };
+    let status = read_one(host, task, first, Sidecar::of(file));
+    beside::close(host, file, packets)?;
+    status
+}
+
+pub(crate) fn extract(host: &mut Host) -> Result<u32, Failed> {
+    let options = read_options(host, Verb::Extract)?;
     let first = options.end;
-    if is_more_than_one(first, count) {
-        return wrong::no_place(host, b"extract", wrapping_add_usize(first, 1));
+    if is_more_than_one(host, first) {
+        return Err(wrong::no_place(host, Verb::Extract, first.wrapping_add(1)));
     }
-    if console::is_terminal_refused(host, b"extract") {
-        return 2;
+    if console::is_terminal_refused(host, Verb::Extract.name()) {
+        return Err(Failed);
     }
-    if options.packets == 0 {
-        return read_one(host, b"extract", first, Sidecar::NONE, b"");
+    match options.packets {
+        Some(index) => extract_beside(host, first, index),
+        None => read_one(host, task_of(Verb::Extract), first, Sidecar::NONE),
     }
-    extract_beside(host, first, options.packets)
 }
 
 // Lists the packets of a recording.
-pub(crate) fn packets(host: &mut Host) -> u32 {
-    let first = names_from(host, b"packets");
-    if first == 0 {
-        return 2;
+pub(crate) fn packets(host: &mut Host) -> Result<u32, Failed> {
+    let first = names_from(host, Verb::Packets)?;
+    if is_more_than_one(host, first) {
+        return Err(wrong::no_place(host, Verb::Packets, first.wrapping_add(1)));
     }
-    if is_more_than_one(first, host.argument_count()) {
-        return wrong::no_place(host, b"packets", wrapping_add_usize(first, 1));
-    }
-    read_one(host, b"packets", first, Sidecar::LISTED, b"")
+    read_one(host, task_of(Verb::Packets), first, Sidecar::LISTED)
 }

@@ -1,26 +1,43 @@
 // What recordings come to, one after the other: a line for each, the sums, and the worst status.
+use crate::help::Verb;
+use crate::wrong::Failed;
 use confirmation::{Run, Totals};
 use console::{Read, Status};
-use host::Host;
+use host::{ERRORS, Host, OUTPUT};
 use station::{Extracted, Sidecar};
 
-// What is done with recordings: confirming or extracting, and the descriptor for their lines.
+// What is done with recordings: the verb, and the name of the packets file, which is empty where there is none.
 #[derive(Clone, Copy)]
-pub(crate) struct Task {
-    pub(crate) is_extracting: bool,
-    pub(crate) rows: i32,
+pub(crate) struct Task<'a> {
+    pub(crate) verb: Verb,
+    pub(crate) packets: &'a [u8],
 }
 
-// The sums and the worst status so far, the run before, what is kept beside the rows, whether there is more to do, and whether the lines could
-// be written.
+impl Task<'_> {
+    pub(crate) fn is_extracting(self) -> bool {
+        self.verb != Verb::Confirm
+    }
+
+    // Where the lines of recordings go. Where standard output takes the rows of the picture, or the list of packets, that is standard error.
+    pub(crate) fn output(self) -> i32 {
+        if self.is_extracting() { ERRORS } else { OUTPUT }
+    }
+
+    // Says that an output failed.
+    pub(crate) fn unwritten(self, host: &mut Host) -> Failed {
+        console::say_unwritten(host, self.verb.name());
+        Failed
+    }
+}
+
+// The sums and the worst status so far, the run before, and what is kept beside the rows.
 #[derive(Clone, Copy)]
-pub(crate) struct Tally {
-    pub(crate) totals: Totals,
-    pub(crate) status: u32,
+pub(crate) struct Tally<'a> {
+    pub(crate) task: Task<'a>,
+    totals: Totals,
+    status: u32,
     pub(crate) before: Run,
     pub(crate) sidecar: Sidecar,
-    pub(crate) is_open: bool,
-    pub(crate) is_written: bool,
 }
 
 // A run that nothing follows on: it was not accepted.
@@ -28,118 +45,80 @@ fn no_run() -> Run {
     Run::begin(&[])
 }
 
-fn worse(status: u32, other: u32) -> u32 {
-    if status < other {
-        return other;
-    }
-    status
-}
-
-impl Tally {
-    pub(crate) fn none(sidecar: Sidecar) -> Tally {
+impl<'a> Tally<'a> {
+    pub(crate) fn none(task: Task<'a>, sidecar: Sidecar) -> Tally<'a> {
         Tally {
+            task,
             totals: Totals::none(),
             status: 0,
             before: no_run(),
             sidecar,
-            is_open: true,
-            is_written: true,
         }
     }
 
-    // The same where nothing stands before.
-    pub(crate) fn apart(self) -> Tally {
-        let mut next = self;
-        next.before = no_run();
-        next
+    // Whether there is more to do: extracting stops at what is not accepted.
+    pub(crate) fn is_open(&self) -> bool {
+        self.status == 0 || !self.task.is_extracting()
     }
 
-    // The same with a status that is at least so bad; extracting stops there.
-    pub(crate) fn marred(self, task: Task, status: u32) -> Tally {
-        let mut next = self;
-        next.status = worse(self.status, status);
-        next.is_open = self.is_open && !task.is_extracting;
-        next
+    // What comes follows on nothing.
+    pub(crate) fn part(&mut self) {
+        self.before = no_run();
     }
 
-    // The same where an output failed, which was said.
-    fn broken(self) -> Tally {
-        let mut next = self;
-        next.status = 2;
-        next.is_open = false;
-        next.is_written = false;
-        next
+    // The status is at least so bad.
+    pub(crate) fn mar(&mut self, status: u32) {
+        self.status = self.status.max(status);
     }
 
-    // With a recording more that could not be read, which was said.
-    pub(crate) fn with_unread(
-        self,
-        host: &mut Host,
-        task: Task,
-        verb: &[u8],
-        name: &[u8],
-    ) -> Tally {
-        if !console::print_unread(host, task.rows, name) {
-            console::say_unwritten(host, verb);
-            return self.broken();
+    // A recording more that could not be read, which was said.
+    pub(crate) fn add_unread(&mut self, host: &mut Host, name: &[u8]) -> Result<(), Failed> {
+        if !console::print_unread(host, self.task.output(), name) {
+            return Err(self.task.unwritten(host));
         }
-        let totals = self.totals;
-        let mut next = self.apart();
-        next.totals = totals.with_unread();
-        next.marred(task, 2)
+        self.part();
+        self.totals = self.totals.with_unread();
+        self.mar(2);
+        Ok(())
     }
 
-    // With a recording more that came to its end or a refusal.
-    fn with_run(self, host: &mut Host, task: Task, verb: &[u8], name: &[u8], run: Run) -> Tally {
+    // A recording more that came to its end or a refusal.
+    fn add_run(&mut self, host: &mut Host, name: &[u8], run: Run) -> Result<(), Failed> {
         let outcome = run.outcome();
-        if !console::print_row(host, task.rows, outcome, name) {
-            console::say_unwritten(host, verb);
-            return self.broken();
+        if !console::print_row(host, self.task.output(), outcome, name) {
+            return Err(self.task.unwritten(host));
         }
-        let totals = self.totals;
-        let mut next = self;
-        next.totals = totals.with_read(outcome);
-        next.before = run;
-        if run.number == 0 {
-            return next;
+        self.totals = self.totals.with_read(outcome);
+        self.before = run;
+        if run.number != 0 {
+            console::say_refused(host, self.task.verb.name(), name, outcome);
+            self.mar(1);
         }
-        console::say_refused(host, verb, name, outcome);
-        next.marred(task, 1)
+        Ok(())
     }
 
-    // With a recording more, however it ended.
-    fn with_read(self, host: &mut Host, task: Task, verb: &[u8], name: &[u8], read: Read) -> Tally {
-        let status = read.status;
-        status.say_failure(host, verb, name);
-        match status {
-            Status::Unread => self.with_unread(host, task, verb, name),
-            Status::Unwritten => self.broken(),
-            Status::Failed => self.broken(),
-            _ => self.with_run(host, task, verb, name, read.run),
-        }
-    }
-
-    // The same with what is kept beside its rows.
-    pub(crate) fn with_extracted(
-        self,
+    // A recording more, however it ended, and what is kept beside its rows.
+    pub(crate) fn add(
+        &mut self,
         host: &mut Host,
-        task: Task,
-        verb: &[u8],
         name: &[u8],
         extracted: Extracted,
-    ) -> Tally {
-        let sidecar = extracted.sidecar;
-        let mut next = self;
-        next.sidecar = sidecar;
-        next.with_read(host, task, verb, name, extracted.read)
+    ) -> Result<(), Failed> {
+        self.sidecar = extracted.sidecar;
+        let Read { run, status } = extracted.read;
+        status.say_failure(host, self.task.verb.name(), name);
+        match status {
+            Status::Unread => self.add_unread(host, name),
+            Status::Unwritten | Status::Failed => Err(Failed),
+            _ => self.add_run(host, name, run),
+        }
     }
 
     // Writes the sums, and answers the exit status.
-    pub(crate) fn ended(self, host: &mut Host, task: Task, verb: &[u8]) -> u32 {
-        if self.is_written && !console::print_totals(host, task.rows, self.totals) {
-            console::say_unwritten(host, verb);
-            return 2;
+    pub(crate) fn end(&self, host: &mut Host) -> Result<u32, Failed> {
+        if !console::print_totals(host, self.task.output(), self.totals) {
+            return Err(self.task.unwritten(host));
         }
-        self.status
+        Ok(self.status)
     }
 }

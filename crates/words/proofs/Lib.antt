@@ -4,3 +4,4 @@ pub mod Over
 pub mod Bytes
 pub mod Theorems
 pub mod Passes
+pub mod Slices

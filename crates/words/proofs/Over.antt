@@ -1,6 +1,10 @@
 -- Numbers over their most: what the fault says both ways, the lowest place as a loop finds it, and that the search keeps to its table.
 -- Assumes nothing.
 use Prim.Native.Nat.{ℕ, ◌<◌, ◌≤◌}
+use Rattle.std.specs.Prelude.{Bool, false, None, List, length, get_or}
+use Rattle.std.specs.List.{position, position_or_len}
+use Rattle.std.proofs.lemmas.List.Sums.{fails_before_first}
+use Rattle.std.proofs.lemmas.Grind.{common_steps}
 use mathlib.Core.Path.{◌≡◌, sym, ap, ◌∙◌}
 use native.Mathlib.Omega.{arith}
 use lib.Dec.{ltb}
@@ -12,6 +16,12 @@ use Rattle.refusal.proofs.Cases.{by_test}
 use Rattle.refusal.proofs.Firsts.{first_none, first_at, first_none_back}
 use Rattle.refusal.proofs.Tables.{numbers_when, keeps_lowest, decides_when, decides_lowest}
 use Rattle.words.specs.Words.{fault_over, most_refusals}
+
+-- what no word of a list passes
+pub nowhere : (p : ℕ → Bool) (words : List ℕ) → position p words ≡ None → (k : ℕ) → k < length words → p (get_or words k 0) ≡ false
+nowhere p words e k l =
+    let all : length words ≤ position_or_len p words = grind (arith, common_steps) in
+    fails_before_first p words k 0 (omega arith)
 
 module _ (most n : ℕ) where
   pub within_no_fault : n ≤ most → fault_over most n ≡ 0

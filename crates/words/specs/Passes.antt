@@ -1,5 +1,4 @@
--- For private passes: no contract of a public call and no promise cites this file.
--- What a pass over words has found, of words that are told by their place: so for words and for bytes alike.
+-- What a pass over words finds, of words that are told by their place: so for words and for bytes alike.
 use Rattle.std.specs.Prelude.{ℕ, ◌+◌, ◌*◌, ◌<◌, ◌≤◌, ◌≡◌}
 use Rattle.words.specs.Words.{least_sample, most_sample}
 

@@ -1,6 +1,7 @@
 -- Document 01: words of ten bits, lists that are told by their elements, and the search for a word over 1023.
-use Rattle.std.specs.Prelude.{ℕ, zero, suc, ◌<◌, cond, List, [], ◌∷◌, ltb, length, get_or}
+use Rattle.std.specs.Prelude.{ℕ, zero, suc, ◌<◌, ◌%◌, cond, eqb, List, [], ◌∷◌, ltb, length, get_or}
 use Rattle.refusal.specs.declared.Refusal.{Refusal}
+use Rattle.words.specs.declared.FillWords.{FillWords}
 use Rattle.refusal.specs.Numbers.{over_ten}
 use Rattle.refusal.specs.Answer.{first_from}
 use Rattle.refusal.specs.Table.{Row, when, Lowest}
@@ -23,6 +24,10 @@ least_sample = 4
 
 abbrev pub most_sample : ℕ
 most_sample = 1019
+
+-- fill, by offset: one word at even and one at odd offsets
+abbrev pub fill_at : FillWords → ℕ → ℕ
+fill_at fill offset = cond (eqb (offset % 2) 0) fill.even fill.odd
 
 -- a number over its most is 5
 abbrev pub fault_over : ℕ → ℕ → ℕ

@@ -1,12 +1,15 @@
 // Words: ten bits, 0 to 1023, held in 16; and words as bytes, two per word, low byte first.
 #![tactic(auto)]
 
-ghost use Rattle.std.specs.Prelude.{◌≡◌, ◌||◌, ℕ, ◌+◌, ◌*◌, ◌/◌, ◌%◌, ◌<◌, ◌≤◌, ltb, length, get_or};
+ghost use Rattle.std.specs.List.{position};
+ghost use Rattle.std.specs.Prelude.{◌≡◌, ◌↔◌, ◌||◌, true, ℕ, ◌+◌, ◌*◌, ◌/◌, ◌%◌, ◌<◌, ◌≤◌, ltb, length, get_or};
 ghost use Rattle.refusal.specs.Answer.{written_by};
-ghost use Rattle.words.specs.Words.{tab, least_sample, most_sample, over_refusal};
+ghost use Rattle.refusal.specs.Reasons.{answered};
+ghost use Rattle.words.specs.Words.{tab, most_word, least_sample, most_sample, fill_at, over_refusal};
+ghost use Rattle.words.specs.Passes.{Sampled};
 ghost use Rattle.words.specs.Bytes.{word_of_bytes, words_of, bytes_of, pairs_refusal};
 
-use refusal::{Number, Refusal};
+use refusal::{Reason, Refused};
 
 // The highest word of ten bits.
 pub const MOST_WORD: u16 = 1023;
@@ -16,6 +19,22 @@ pub const LEAST_SAMPLE: u16 = 4;
 
 pub const MOST_SAMPLE: u16 = 1019;
 
+// Fill by offset: a word for even and a word for odd offsets.
+#[derive(Clone, Copy)]
+pub struct FillWords {
+    pub even: u16,
+    pub odd: u16,
+}
+
+impl FillWords {
+    // The word of fill at an offset.
+    pub fn at(self, offset: usize) -> u16
+        ensures { result ≡ fill_at self offset }
+    {
+        if offset % 2 == 0 { self.even } else { self.odd }
+    }
+}
+
 // Whether a word is none of the samples 4 to 1019.
 pub fn reserved(word: u16) -> bool
     ensures { result ≡ (ltb word least_sample || ltb most_sample word) }
@@ -23,24 +42,37 @@ pub fn reserved(word: u16) -> bool
     (word < LEAST_SAMPLE) | (MOST_SAMPLE < word)
 }
 
+// Whether every word is a sample. No branch leaves the loop, so that it runs on vectors; and inlined, so that a length that a caller knows is known
+// to it.
+#[inline]
+pub fn all_samples(words: &[u16]) -> bool
+    ensures { (result ≡ true) ↔ Sampled (λ k. get_or words.now k 0) (length words.now) }
+{
+    let mut well = true;
+    for word in words {
+        well = well & !reserved(*word);
+    }
+    well
+}
+
 // 5 at the first word over 1023, or number 0. The search is for the place only: all words are judged at once before it.
-pub fn first_over(words: &[u16]) -> Refusal
-    ensures { result ≡ over_refusal words.now }
+pub fn first_over(words: &[u16]) -> Result<(), Refused>
+    ensures { answered result ≡ over_refusal words.now }
 {
     if any_of(words) <= MOST_WORD {
-        return Refusal::NONE;
+        return Ok(());
     }
-    let mut i = 0;
-    while i < words.len() {
-        if words[i] > MOST_WORD {
-            return Refusal {
-                number: Number::OVER,
-                place: i,
-            };
-        }
-        i += 1;
+    match place_over(words) {
+        Some(i) => Err(Reason::Over.at(i)),
+        None => Ok(()),
     }
-    Refusal::NONE
+}
+
+// Where the first word over 1023 stands.
+fn place_over(words: &[u16]) -> Option<usize>
+    ensures { result ≡ position (λ w. ltb most_word w) words.now }
+{
+    words.iter().position(|word| MOST_WORD < *word)
 }
 
 // All words or'ed: no word is larger.
@@ -48,10 +80,8 @@ fn any_of(words: &[u16]) -> u16
     ensures { (i : ℕ) → i < length words.now → get_or words.now i 0 ≤ result }
 {
     let mut all: u16 = 0;
-    let mut i = 0;
-    while i < words.len() {
-        all = words[i] | all;
-        i += 1;
+    for word in words {
+        all = *word | all;
     }
     all
 }
@@ -60,14 +90,14 @@ fn any_of(words: &[u16]) -> u16
 pub fn word_of(low: u8, high: u8) -> u16
     ensures { result ≡ low + 256 * high }
 {
-    low as u16 + 256 * (high as u16)
+    u16::from_le_bytes([low, high])
 }
 
 // Two words as one number, which the processor compares at once.
 pub fn pair_of(first: u16, second: u16) -> u32
     ensures { result ≡ first + 65536 * second }
 {
-    first as u32 + 65536 * (second as u32)
+    u32::from(first) + 65536 * u32::from(second)
 }
 
 // The word of the two bytes at an offset of the bytes.
@@ -78,7 +108,7 @@ fn word_at(bytes: &[u8], at: usize) -> u16
     word_of(bytes[at], bytes[at + 1])
 }
 
-// Copies the words of bytes out.
+// Copies the words of bytes out. By an index: two slices are walked at two strides.
 fn copy_words(bytes: &[u8], words: &mut [u16])
     requires { length bytes.now ≡ 2 * length words.old }
     ensures { words.new ≡ tab (length words.old) (λ k. word_of_bytes bytes.now (2 * k)) }
@@ -89,67 +119,43 @@ fn copy_words(bytes: &[u8], words: &mut [u16])
 }
 
 // What is wrong where so many bytes are to be so many words.
-fn pairs_refusal(bytes: usize, words: usize) -> Refusal
-    ensures { result ≡ pairs_refusal bytes words }
+fn pairs_refusal(bytes: usize, words: usize) -> Result<(), Refused>
+    ensures { answered result ≡ pairs_refusal bytes words }
 {
-    let unlike = Refusal {
-        number: Number::WRONG_LENGTH,
-        place: 0,
-    };
-    if bytes % 2 != 0 {
-        return unlike;
+    if bytes % 2 != 0 || bytes / 2 != words {
+        return Err(Reason::WrongLength.at(0));
     }
-    if bytes / 2 != words {
-        return unlike;
-    }
-    Refusal::NONE
+    Ok(())
 }
 
 // Takes the words of bytes. Bytes that are not twice the words are 3, and no word is written.
-pub fn to_words(bytes: &[u8], words: &mut [u16]) -> Refusal
-    ensures answer { result ≡ pairs_refusal (length bytes.now) (length words.old) }
-    ensures words { words.new ≡ written_by result (words_of bytes.now) words.old }
+pub fn to_words(bytes: &[u8], words: &mut [u16]) -> Result<(), Refused>
+    ensures answer { answered result ≡ pairs_refusal (length bytes.now) (length words.old) }
+    ensures words { words.new ≡ written_by (answered result) (words_of bytes.now) words.old }
 {
-    let refusal = pairs_refusal(bytes.len(), words.len());
-    if refusal.number != 0 {
-        return refusal;
-    }
+    pairs_refusal(bytes.len(), words.len())?;
     copy_words(bytes, words);
-    refusal
+    Ok(())
 }
 
-fn low_byte(word: u16) -> u8
-    ensures { result ≡ word % 256 }
-{
-    (word % 256) as u8
-}
-
-fn high_byte(word: u16) -> u8
-    ensures { result ≡ word / 256 }
-{
-    (word / 256) as u8
-}
-
-// Copies the bytes of words out.
+// Copies the bytes of words out, by an index as well.
 fn copy_bytes(words: &[u16], bytes: &mut [u8])
     requires { length bytes.old ≡ 2 * length words.now }
     ensures { bytes.new ≡ bytes_of words.now }
 {
     for k in 0..words.len() {
-        bytes[2 * k] = low_byte(words[k]);
-        bytes[2 * k + 1] = high_byte(words[k]);
+        let [low, high] = words[k].to_le_bytes();
+        bytes[2 * k] = low;
+        bytes[2 * k + 1] = high;
     }
 }
 
 // Gives the bytes of words. Bytes that are not twice the words are 3, and no byte is written.
-pub fn to_bytes(words: &[u16], bytes: &mut [u8]) -> Refusal
-    ensures answer { result ≡ pairs_refusal (length bytes.old) (length words.now) }
-    ensures bytes { bytes.new ≡ written_by result (bytes_of words.now) bytes.old }
+pub fn to_bytes(words: &[u16], bytes: &mut [u8]) -> Result<(), Refused>
+    ensures answer { answered result ≡ pairs_refusal (length bytes.old) (length words.now) }
+    ensures bytes { bytes.new ≡ written_by (answered result) (bytes_of words.now) bytes.old }
 {
-    let refusal = pairs_refusal(bytes.len(), words.len());
-    if refusal.number != 0 {
-        return refusal;
-    }
+    pairs_refusal(bytes.len(), words.len())?;
     copy_bytes(words, bytes);
-    refusal
+    Ok(())
 }

@@ -1,22 +1,21 @@
 -- The writer's answers, as each of their tests leaves them, and what is known where nothing is refused. Assumes nothing.
 use Prim.Native.Nat.{ℕ, ◌+◌, ◌<◌, ◌≤◌}
-use mathlib.Core.Path.{◌≡◌, refl, sym, ◌∙◌}
+use mathlib.Core.Path.{◌≡◌, refl, sym, ap, ◌∙◌}
 use mathlib.Core.Bool.{true≢false, not, ◌||◌}
-use mathlib.Core.List.{List}
+use mathlib.Core.List.{List, [], ◌∷◌}
 use mathlib.Core.Logic.{inr}
 use native.Mathlib.Omega.{arith}
 use lib.Dec.{ltb, eqb}
 use lib.ListN.{length}
-use borrow.Author.Tests.{eq-eqb, ne_eqb, lt-ltb, le-ltb, ltb-false}
+use borrow.Author.Tests.{eq-eqb, lt-ltb, le-ltb, ltb-false}
 use Rattle.refusal.specs.declared.Refusal.{Refusal}
 use Rattle.refusal.specs.Numbers.{wrong_length, outside}
-use Rattle.refusal.specs.Answer.{none, refuse, or_else}
+use Rattle.refusal.specs.Answer.{none, refuse, or_else, first_of}
 use Rattle.refusal.specs.Table.{Keeps}
 use Rattle.refusal.proofs.Cases.{by_cond, by_test}
-use Rattle.refusal.proofs.Firsts.{or_else_accepted, or_else_refused, or_else_none, same_number, not_made, length_due}
+use Rattle.refusal.proofs.Firsts.{or_else_accepted, or_else_none, same_number, not_made, length_due}
 use Rattle.refusal.proofs.Tables.{alone, numbers_when, keeps_lowest}
 use Rattle.packets.specs.Fault.{ready_refusal}
-use Rattle.packets.proofs.Exact.{ready_exact}
 use Rattle.system.specs.declared.due.Due.{Due}
 use Rattle.system.specs.Figures.{line_length, sav_offset, active_offset}
 use Rattle.words.specs.Words.{least_sample, most_sample}
@@ -78,22 +77,6 @@ module _ (d : Due) (k : Packets) where
   abbrev pub active_refusal : Refusal
   active_refusal = ready_refusal (active_offset d.system) k.active
 
-  pub packets_lengths : (lengths_refusal.number ≡ 0 → ⊥) → lengths_refusal ≡ packets_refusal d k
-  unfolding packets_refusal
-  packets_lengths n = sym (or_else_refused lengths_refusal _ n)
-
-  module _ (room : lengths_refusal.number ≡ 0) where
-    pub packets_between : (between_refusal.number ≡ 0 → ⊥) → between_refusal ≡ packets_refusal d k
-    unfolding packets_refusal
-    packets_between n = sym (or_else_accepted lengths_refusal _ room ∙ or_else_refused between_refusal _ n)
-
-    pub packets_active : between_refusal.number ≡ 0 → active_refusal ≡ packets_refusal d k
-    unfolding packets_refusal
-    packets_active e =
-        sym
-        (or_else_accepted lengths_refusal _ room ∙ or_else_accepted between_refusal _ e
-        ∙ alone _ active_refusal (ready_exact (active_offset d.system) k.active))
-
   pub packets_passed : (packets_refusal d k).number ≡ 0 → Carried d k
   unfolding packets_refusal
   packets_passed e =
@@ -117,30 +100,14 @@ module _ (d : Due) (c : Content) (others : Refusal) (room : ℕ) where
   carried = or_else (packets_refusal d c.packets) (sample_refusal d c.samples)
 
   abbrev answer : Refusal
-  answer =
-      or_else (length_refusal d.system room) (or_else others (or_else (packets_refusal d c.packets) (or_else (sample_refusal d c.samples) none)))
+  answer = first_of (length_refusal d.system room ∷ others ∷ packets_refusal d c.packets ∷ sample_refusal d c.samples ∷ [])
 
-  wrong_room : (room ≡ line_length d.system → ⊥) → record { number = wrong_length; place = 0 } ≡ answer
-  unfolding or_else
-  wrong_room n = simp (ne_eqb _ _ n)
-
-  module _ (sized : room ≡ line_length d.system) where
-    past_room : answer ≡ or_else others carried
-    unfolding or_else
-    past_room = simp (eq-eqb _ _ sized, alone _ (sample_refusal d c.samples) (samples_exact d c.samples))
-
-    wrong_others : (others.number ≡ 0 → ⊥) → others ≡ answer
-    wrong_others n = sym (past_room ∙ or_else_refused others _ n)
-
-    module _ (e : others.number ≡ 0) where
-      only_carried : carried ≡ answer
-      only_carried = sym (past_room ∙ or_else_accepted others _ e)
-
-      wrong_packets : ((packets_refusal d c.packets).number ≡ 0 → ⊥) → packets_refusal d c.packets ≡ answer
-      wrong_packets n = sym (or_else_refused (packets_refusal d c.packets) _ n) ∙ only_carried
-
-      only_samples : (packets_refusal d c.packets).number ≡ 0 → sample_refusal d c.samples ≡ answer
-      only_samples z = sym (or_else_accepted (packets_refusal d c.packets) _ z) ∙ only_carried
+  only_carried : room ≡ line_length d.system → others.number ≡ 0 → carried ≡ answer
+  only_carried sized e =
+      let no_length : (length_refusal d.system room).number ≡ 0 = simp (eq-eqb _ _ sized) in
+      sym
+      (or_else_accepted (length_refusal d.system room) _ no_length ∙ or_else_accepted others _ e
+      ∙ ap (or_else (packets_refusal d c.packets)) (alone _ (sample_refusal d c.samples) (samples_exact d c.samples)))
 
   pub record Passed : Type 0 where
     pub words : room ≡ line_length d.system
@@ -166,23 +133,10 @@ module _ (d : Due) (c : Content) (room : ℕ) where
   abbrev pub buffers_refusal : Refusal
   buffers_refusal = buffer_refusal (length c.samples.y) (length c.samples.cb) (length c.samples.cr)
 
-  pub due_room : (room ≡ line_length d.system → ⊥) → record { number = wrong_length; place = 0 } ≡ due_refusal d c room
+  pub due_samples : room ≡ line_length d.system → buffers_refusal.number ≡ 0 → (packets_refusal d c.packets).number ≡ 0
+      → sample_refusal d c.samples ≡ due_refusal d c room
   unfolding due_refusal
-  due_room n = wrong_room d c buffers_refusal room n
-
-  module _ (sized : room ≡ line_length d.system) where
-    pub due_buffers : (buffers_refusal.number ≡ 0 → ⊥) → buffers_refusal ≡ due_refusal d c room
-    unfolding due_refusal
-    due_buffers n = wrong_others d c buffers_refusal room sized n
-
-    module _ (e : buffers_refusal.number ≡ 0) where
-      pub due_packets : ((packets_refusal d c.packets).number ≡ 0 → ⊥) → packets_refusal d c.packets ≡ due_refusal d c room
-      unfolding due_refusal
-      due_packets n = wrong_packets d c buffers_refusal room sized e n
-
-      pub due_samples : (packets_refusal d c.packets).number ≡ 0 → sample_refusal d c.samples ≡ due_refusal d c room
-      unfolding due_refusal
-      due_samples z = only_samples d c buffers_refusal room sized e z
+  due_samples sized e z = sym (or_else_accepted (packets_refusal d c.packets) _ z) ∙ only_carried d c buffers_refusal room sized e
 
   pub due_passed : (due_refusal d c room).number ≡ 0 → Passed d c buffers_refusal room
   unfolding due_refusal
@@ -193,33 +147,8 @@ module _ (d : Due) (part : List ℕ) (k : Packets) (room : ℕ) where
   abbrev pub long_refusal : Refusal
   long_refusal = refuse (not (eqb (length part) active_length)) wrong_length 1
 
-  pub part_room : (room ≡ line_length d.system → ⊥) → record { number = wrong_length; place = 0 } ≡ part_refusal d part k room
+  pub part_carried : room ≡ line_length d.system → length part ≡ active_length
+      → or_else (packets_refusal d k) (sample_refusal d (part_samples part)) ≡ part_refusal d part k room
   unfolding part_refusal
-  part_room n = wrong_room d (part_content part k) long_refusal room n
-
-  module _ (sized : room ≡ line_length d.system) where
-    pub part_length : (length part ≡ active_length → ⊥) → record { number = wrong_length; place = 1 } ≡ part_refusal d part k room
-    unfolding part_refusal or_else
-    part_length n = simp (eq-eqb _ _ sized, ne_eqb _ _ n)
-
-    module _ (e : length part ≡ active_length) where
-      not_refused : long_refusal.number ≡ 0
-      not_refused = simp (eq-eqb _ _ e)
-
-      pub part_carried : or_else (packets_refusal d k) (sample_refusal d (part_samples part)) ≡ part_refusal d part k room
-      unfolding part_refusal
-      part_carried = only_carried d (part_content part k) long_refusal room sized not_refused
-
-      pub part_packets : ((packets_refusal d k).number ≡ 0 → ⊥) → packets_refusal d k ≡ part_refusal d part k room
-      unfolding part_refusal
-      part_packets n = wrong_packets d (part_content part k) long_refusal room sized not_refused n
-
-      pub part_samples_are : (packets_refusal d k).number ≡ 0 → sample_refusal d (part_samples part) ≡ part_refusal d part k room
-      unfolding part_refusal
-      part_samples_are z = only_samples d (part_content part k) long_refusal room sized not_refused z
-
-  pub part_passed : (part_refusal d part k room).number ≡ 0 → Passed d (part_content part k) long_refusal room × (length part ≡ active_length)
-  unfolding part_refusal
-  part_passed e =
-      let all = passed d (part_content part k) long_refusal room e in
-      (all, length_due (length part) active_length 1 all.lengths)
+  part_carried sized long =
+      let no_length : long_refusal.number ≡ 0 = simp (eq-eqb _ _ long) in only_carried d (part_content part k) long_refusal room sized no_length

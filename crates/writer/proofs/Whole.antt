@@ -10,7 +10,6 @@ use lib.ListN.{length, get_or}
 use Rattle.refusal.proofs.Cases.{by_cond}
 use Rattle.system.specs.Figures.{line_length, sav_offset, active_offset}
 use Rattle.system.specs.declared.due.Due.{Due}
-use Rattle.system.proofs.Laws.{line_is_parts}
 use Rattle.line.specs.declared.What.{What}
 use Rattle.line.specs.declared.What.TheVariants.{Ones, Zeros, Fourth, Fill}
 use Rattle.system.specs.Due.{flags_of}
@@ -78,17 +77,15 @@ module _ (d : Due) (p : Samples) (l3 l4 : List ℕ) (done : Blanked d p l3) (at 
   picture_whole v active = whole (active_word p at) active (λ i g. rw a (due_word d p i _ (due_sample d i g v)))
 
 -- an active part that is laid into its place is its own samples
-pub part_whole : (d : Due) (part l3 l4 : List ℕ) → length part ≡ active_length → Blanked d (part_samples part) l3 → (at : ℕ) → at ≡ active_offset d.system
-    → d.v ≡ false → Laid part at l3 l4 → l4 ≡ bare_of d (part_samples part)
-part_whole d part l3 l4 long done at a v laid =
-    let whole-line = line_is_parts d.system in
-    let active = laid_put part at l3 l4 (line_length d.system) (omega arith) (omega (arith, done.size)) laid in
-    picture_whole d (part_samples part) l3 l4 done at (line_length d.system) a refl v
-    (record {
-      size = active.size;
-      kept = active.kept;
-      there = λ i l g. active.there i l g ∙ sym (part_in_place part (i - at) (omega arith));
-    })
+pub part_put : (part before after : List ℕ) (at : ℕ) → length part ≡ active_length → at + active_length ≤ length before → Laid part at before after
+    → Put (active_word (part_samples part) at) at (at + active_length) before after
+part_put part before after at long room laid =
+    let put = laid_put part at before after (at + active_length) (omega arith) room laid in
+    record {
+      size = put.size;
+      kept = put.kept;
+      there = λ i l g. put.there i l g ∙ sym (part_in_place part (i - at) (omega arith));
+    }
 
 -- ---- the line without packets has the line's length
 pub bare_length : (d : Due) (p : Samples) → length (bare_of d p) ≡ line_length d.system

@@ -4,7 +4,12 @@ use Rattle.std.specs.Prelude.{ℕ, ◌-◌, ◌<◌, ◌≤◌, ◌≡◌, List,
 use Rattle.system.specs.declared.due.Due.{Due}
 use Rattle.system.specs.Figures.{line_length, active_offset}
 use Rattle.line.specs.Offsets.{code_at, fill_at}
-use Rattle.line.specs.Samples.{Samples, sample_at, word_where, bare_at, laid_at}
+use Rattle.line.specs.Samples.{Samples, Packets, sample_at, word_where, bare_at, laid_at}
+use Rattle.writer.specs.declared.ready.Ready.{Ready}
+
+-- the ready words that a caller lends
+abbrev pub packets_in : Ready → Packets
+packets_in r = record { between = r.between.now; active = r.active.now }
 
 -- what stores from one offset up to another leave: the words below as they were, and these words there
 pub record Put (word : ℕ → ℕ) (from to : ℕ) (before after : List ℕ) : Type 0 where

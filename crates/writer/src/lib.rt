@@ -2,27 +2,32 @@
 #![tactic(auto)]
 
 mod part;
+mod picture;
+mod planes;
 mod ready;
 
-ghost use Rattle.std.specs.Prelude.{◌≡◌, true, ◌+◌, ◌%◌, ◌≤◌, ◌<◌, length};
-ghost use Rattle.refusal.specs.Answer.{first_from, written_by};
+ghost use Rattle.std.specs.Prelude.{◌≡◌, [], ◌∷◌, ◌+◌, ◌%◌, ◌≤◌, length};
+ghost use Rattle.refusal.specs.Answer.{first_of, written_by};
+ghost use Rattle.refusal.specs.Reasons.{answered};
 ghost use Rattle.system.specs.Figures.{line_length};
-ghost use Rattle.line.specs.Samples.{Samples, active_length, sample_at, bare_of, line_of};
-ghost use Rattle.line.specs.Fit.{Measured, Inside};
-ghost use Rattle.writer.specs.Passes.{Put, Blanked, code_word, fill_word, active_word};
-ghost use Rattle.writer.specs.Write.{outside_at, sample_refusal, due_refusal, write_refusal, line_after};
+ghost use Rattle.line.specs.Lengths.{length_refusal};
+ghost use Rattle.line.specs.Samples.{Samples, bare_of, line_of};
+ghost use Rattle.writer.specs.Passes.{Put, Blanked, code_word, fill_word, packets_in};
+ghost use Rattle.writer.specs.Write.{packets_refusal, sample_refusal, due_refusal, part_refusal, part_content, write_refusal, line_after};
 
-use crate::ready::{packets_refusal, put_packets};
-use line::buffer_refusal;
-pub use part::write_part;
-use refusal::{Number, Refusal};
+use crate::part::Part;
+use crate::picture::{Picture, sample_refusal};
+use crate::planes::Planes;
+use crate::ready::Ready;
+use refusal::{Reason, Refused};
 use system::{Due, system_of, written_refusal};
 use timing::fourth;
-use words::{LEAST_SAMPLE, MOST_SAMPLE, MOST_WORD, reserved};
+use words::MOST_WORD;
 
 // Writes the line with this number, where V of the first field falls at this line: 1, 2, 3, what is wrong with the ready packet words of the space between and of the active part, and then 12
 // at the lowest place of the active part, on V = 0 lines only. On V = 1 lines the samples are measured but not looked at. Behind the packets
 // fill is written. A refusal leaves the line as it was.
+#[tactic(auto, using(refusal::proofs::Results::err_first, refusal::proofs::Results::ok_first, refusal::proofs::Results::err_stays, refusal::proofs::Results::ok_written), unfolding(crate::specs::Write::write_refusal, crate::specs::Write::line_after))]
 pub fn write(
     system: u32,
     line: u32,
@@ -33,19 +38,17 @@ pub fn write(
     between: &[u16],
     active: &[u16],
     words: &mut [u16],
-) -> Refusal
-    ensures answer { result ≡ write_refusal system line fall (record { samples = record { y = y.entry.now; cb = cb.now; cr = cr.now }; packets = record { between = between.entry.now; active = active.now } }) (length words.old) }
-    ensures words { words.new ≡ line_after system line fall (record { samples = record { y = y.entry.now; cb = cb.now; cr = cr.now }; packets = record { between = between.entry.now; active = active.now } }) words.old }
+) -> Result<(), Refused>
+    ensures answer { answered result ≡ write_refusal system line fall (record { samples = record { y = y.now; cb = cb.now; cr = cr.now }; packets = record { between = between.now; active = active.now } }) (length words.old) }
+    ensures words { words.new ≡ line_after system line fall (record { samples = record { y = y.now; cb = cb.now; cr = cr.now }; packets = record { between = between.now; active = active.now } }) words.old }
 {
-    let named = written_refusal(system, line, fall);
-    if named.number != 0 {
-        return named;
-    }
+    written_refusal(system, line, fall)?;
     let due = Due::of(system_of(system), line, fall);
     write_line(due, y, cb, cr, between, active, words)
 }
 
 // Writes the line in which this is due, by whatever number it has: 3, the ready packet words, then 12.
+#[tactic(auto, using(refusal::proofs::Results::err_first, refusal::proofs::Results::ok_first, refusal::proofs::Results::err_stays, refusal::proofs::Results::ok_written), unfolding(crate::specs::Write::due_refusal))]
 pub fn write_line(
     due: Due,
     y: &[u16],
@@ -54,152 +57,82 @@ pub fn write_line(
     between: &[u16],
     active: &[u16],
     words: &mut [u16],
-) -> Refusal
-    ensures answer { result ≡ due_refusal due (record { samples = record { y = y.entry.now; cb = cb.now; cr = cr.now }; packets = record { between = between.entry.now; active = active.now } }) (length words.old) }
-    ensures words { words.new ≡ written_by result (line_of due (record { samples = record { y = y.entry.now; cb = cb.now; cr = cr.now }; packets = record { between = between.entry.now; active = active.now } })) words.old }
+) -> Result<(), Refused>
+    ensures answer { answered result ≡ due_refusal due (record { samples = record { y = y.now; cb = cb.now; cr = cr.now }; packets = record { between = between.now; active = active.now } }) (length words.old) }
+    ensures words { words.new ≡ written_by (answered result) (line_of due (record { samples = record { y = y.now; cb = cb.now; cr = cr.now }; packets = record { between = between.now; active = active.now } })) words.old }
 {
-    let refusal = due_refusal(due, y, cb, cr, between, active, words.len());
-    if refusal.number != 0 {
-        return refusal;
-    }
-    put_line(due, y, cb, cr, words);
-    put_packets(due, between, active, words);
-    refusal
+    length_refusal(due, words.len())?;
+    let planes = Planes::of(y, cb, cr)?;
+    put_content(due, &planes, &Ready { between, active }, words)
 }
 
-// All that refuses, before the first store: 3, the ready packet words, then 12.
-fn due_refusal(
+// Writes the line in which this is due, of the words of its active part: 3 at 0 for the line and at 1 for the part, the ready packet words, then
+// 12 at the lowest place, where V is 0. Where V is 1 the part is measured but not looked at. A refusal leaves the line as it was.
+#[tactic(auto, using(refusal::proofs::Results::err_first, refusal::proofs::Results::ok_first, refusal::proofs::Results::err_stays, refusal::proofs::Results::ok_written), unfolding(crate::specs::Write::part_refusal))]
+pub fn write_part(
     due: Due,
-    y: &[u16],
-    cb: &[u16],
-    cr: &[u16],
+    part: &[u16],
     between: &[u16],
     active: &[u16],
-    room: usize,
-) -> Refusal
-    ensures { result ≡ due_refusal due (record { samples = record { y = y.entry.now; cb = cb.now; cr = cr.now }; packets = record { between = between.entry.now; active = active.now } }) room }
+    words: &mut [u16],
+) -> Result<(), Refused>
+    ensures answer { answered result ≡ part_refusal due part.now (record { between = between.now; active = active.now }) (length words.old) }
+    ensures words { words.new ≡ written_by (answered result) (line_of due (part_content part.now (record { between = between.now; active = active.now }))) words.old }
 {
-    let system = due.system;
-    if room != system.line_length() {
-        return Refusal {
-            number: Number::WRONG_LENGTH,
-            place: 0,
-        };
-    }
-    let lengths = buffer_refusal(y.len(), cb.len(), cr.len());
-    if lengths.number != 0 {
-        return lengths;
-    }
-    let packets = packets_refusal(due, between, active);
-    if packets.number != 0 {
-        return packets;
-    }
-    sample_refusal(due, y, cb, cr)
+    length_refusal(due, words.len())?;
+    let part = Part::of(part)?;
+    put_content(due, &part, &Ready { between, active }, words)
 }
 
-// What refuses the samples of a line: 12, on V = 0 lines only.
-fn sample_refusal(due: Due, y: &[u16], cb: &[u16], cr: &[u16]) -> Refusal
-    requires { Measured (record { y = y.now; cb = cb.now; cr = cr.now }) }
-    ensures { result ≡ sample_refusal due (record { y = y.entry.now; cb = cb.now; cr = cr.now }) }
+// What is wrong with the length of the line: 3 at 0.
+fn length_refusal(due: Due, room: usize) -> Result<(), Refused>
+    ensures { answered result ≡ length_refusal due.system room }
 {
-    if due.v || all_samples(y, cb, cr) {
-        return Refusal::NONE;
+    if room != due.system.line_length() {
+        return Err(Reason::WrongLength.at(0));
     }
-    lowest_outside(y, cb, cr)
+    Ok(())
 }
 
-// True only where no sample is outside 4 to 1019: one pass over both halves of Y and over CB and CR.
-// The loop has no way out, so that it runs on vectors.
-fn all_samples(y: &[u16], cb: &[u16], cr: &[u16]) -> bool
-    requires { Measured (record { y = y.now; cb = cb.now; cr = cr.now }) }
-    ensures { result ≡ true → Inside (record { y = y.entry.now; cb = cb.now; cr = cr.now }) }
+// Writes a line of a picture and ready packet words: what refuses those, then 12, and all that before the first store.
+#[tactic(auto, using(refusal::proofs::Results::err_first, refusal::proofs::Results::ok_first, refusal::proofs::Results::err_stays, refusal::proofs::Results::ok_written))]
+fn put_content<P: Picture>(
+    due: Due,
+    picture: &P,
+    ready: &Ready,
+    words: &mut [u16],
+) -> Result<(), Refused>
+    requires { length words.old ≡ line_length due.system }
+    ensures answer { answered result ≡ first_of (packets_refusal due (packets_in ready.now) ∷ sample_refusal due (P.samples picture.now) ∷ []) }
+    ensures words { words.new ≡ written_by (answered result) (line_of due (record { samples = P.samples picture.now; packets = packets_in ready.now })) words.old }
 {
-    let half = cb.len();
-    let mut lowest: u16 = LEAST_SAMPLE;
-    let mut highest: u16 = MOST_SAMPLE;
-    for k in 0..half {
-        let left = y[k];
-        let right = y[half + k];
-        let blue = cb[k];
-        let red = cr[k];
-        lowest = lower(lowest, lower(lower(left, right), lower(blue, red)));
-        highest = higher(highest, higher(higher(left, right), higher(blue, red)));
-    }
-    (lowest == LEAST_SAMPLE) & (highest == MOST_SAMPLE)
-}
-
-// The lower of two words.
-fn lower(a: u16, b: u16) -> u16
-    ensures { (result ≤ a) × (result ≤ b) }
-{
-    if a < b {
-        return a;
-    }
-    b
-}
-
-// The higher of two words.
-fn higher(a: u16, b: u16) -> u16
-    ensures { (a ≤ result) × (b ≤ result) }
-{
-    if a < b {
-        return b;
-    }
-    a
-}
-
-// The exact search behind the quick pass: 12 at the lowest place whose sample is outside.
-fn lowest_outside(y: &[u16], cb: &[u16], cr: &[u16]) -> Refusal
-    requires { Measured (record { y = y.now; cb = cb.now; cr = cr.now }) }
-    ensures { result ≡ first_from (outside_at (record { y = y.entry.now; cb = cb.now; cr = cr.now })) 0 active_length }
-{
-    for place in 0..2 * y.len() {
-        if reserved(sample_at(y, cb, cr, place)) {
-            return Refusal {
-                number: Number::OUTSIDE,
-                place,
-            };
-        }
-    }
-    Refusal::NONE
-}
-
-// The sample at a place of the active part: CB, Y, CR, Y repeated.
-fn sample_at(y: &[u16], cb: &[u16], cr: &[u16], place: usize) -> u16
-    requires { Measured (record { y = y.now; cb = cb.now; cr = cr.now }) × (place < active_length) }
-    ensures { result ≡ sample_at (record { y = y.entry.now; cb = cb.now; cr = cr.now }) place }
-{
-    if place % 2 == 1 {
-        return y[place / 2];
-    }
-    if place % 4 == 0 {
-        return cb[place / 4];
-    }
-    cr[place / 4]
+    ready.refusal(due)?;
+    sample_refusal(due, picture)?;
+    put_line(due, picture, words);
+    ready.lay(due, words);
+    Ok(())
 }
 
 // Writes the line without packets part by part: EAV, fill, SAV, and the active part, which is fill where V is 1.
-fn put_line(due: Due, y: &[u16], cb: &[u16], cr: &[u16], words: &mut [u16])
-    requires { Measured (record { y = y.now; cb = cb.now; cr = cr.now }) × (length words.old ≡ line_length due.system) }
-    ensures { words.new ≡ bare_of due (record { y = y.entry.now; cb = cb.now; cr = cr.now }) }
+fn put_line<P: Picture>(due: Due, picture: &P, words: &mut [u16])
+    requires { length words.old ≡ line_length due.system }
+    ensures { words.new ≡ bare_of due (P.samples picture.now) }
 {
     put_blanking(due, words);
-    let system = due.system;
-    let active = system.active_offset();
+    let active = due.system.active_offset();
     if due.v {
         put_fill(due, active, words.len(), words);
-        return;
+    } else {
+        picture.put(active, words);
     }
-    put_active(y, cb, cr, active, words);
 }
 
 // Writes all but the active part: EAV, fill, SAV.
-pub(crate) fn put_blanking(due: Due, words: &mut [u16])
+fn put_blanking(due: Due, words: &mut [u16])
     requires { length words.old ≡ line_length due.system }
     ensures { (p : Samples) → Blanked due p words.new }
 {
-    let system = due.system;
-    let sav = system.sav_offset();
+    let sav = due.system.sav_offset();
     put_code(due.flags(true), 0, words);
     put_fill(due, 4, sav, words);
     put_code(due.flags(false), sav, words);
@@ -216,8 +149,8 @@ fn put_code(fvh: u32, at: usize, words: &mut [u16])
     words[at + 3] = fourth(fvh);
 }
 
-// Writes fill from one even offset up to another.
-pub(crate) fn put_fill(due: Due, from: usize, to: usize, words: &mut [u16])
+// Writes fill from one even offset up to another, by pairs: one word after another by FillWords::at takes nine times as long.
+fn put_fill(due: Due, from: usize, to: usize, words: &mut [u16])
     requires { (from % 2 ≡ 0) × (to % 2 ≡ 0) × (from ≤ to) × (to ≤ length words.old) }
     ensures { Put (fill_word due) from to words.old words.new }
 {
@@ -225,19 +158,5 @@ pub(crate) fn put_fill(due: Due, from: usize, to: usize, words: &mut [u16])
         let offset = from + 2 * pair;
         words[offset] = due.fill.even;
         words[offset + 1] = due.fill.odd;
-    }
-}
-
-// Writes the samples from an offset on: CB, Y, CR, Y repeated.
-fn put_active(y: &[u16], cb: &[u16], cr: &[u16], at: usize, words: &mut [u16])
-    requires { Measured (record { y = y.now; cb = cb.now; cr = cr.now }) × (at + active_length ≤ length words.old) }
-    ensures { Put (active_word (record { y = y.entry.now; cb = cb.now; cr = cr.now }) at) at (at + active_length) words.old words.new }
-{
-    for group in 0..cb.len() {
-        let offset = at + 4 * group;
-        words[offset] = cb[group];
-        words[offset + 1] = y[2 * group];
-        words[offset + 2] = cr[group];
-        words[offset + 3] = y[2 * group + 1];
     }
 }

@@ -1,5 +1,5 @@
 -- `bytewise::judge_in` meets its contract: what is judged is the part that the words were copied into. Assumes nothing.
-use Rattle.std.proofs.Common.{◌≡◌, ℕ, ◌-◌, ◌*◌, length, take, ap, ◌∙◌, arith, length-take-le, take_at, rules}
+use Rattle.std.proofs.Common.{◌≡◌, ℕ, ◌-◌, ◌*◌, length, take, ap, ◌∙◌, arith, length-take-le, take_at}
 use Rattle.refusal.proofs.Firsts.{same_number, written_accepted}
 use Rattle.words.proofs.Bytes.{pairs_accepted}
 use Rattle.reader.specs.Judge.{judged_of}
@@ -15,4 +15,4 @@ returns c =
     c.judge.ensures
     ∙ ap (judged_of a.walk)
     (take_at done.new.words _ n (done.auto.words ∙ held) ∙ done.ensures.words
-    ∙ written_accepted done.result _ _ (same_number (done.ensures.answer ∙ pairs_accepted _ _ fits)))
+    ∙ written_accepted _ _ _ (same_number (done.ensures.answer ∙ pairs_accepted _ _ fits)))

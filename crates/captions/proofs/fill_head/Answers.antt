@@ -1,27 +1,35 @@
--- `captions::fill_head` meets its contract: twelve bytes are those of six words. Assumes nothing.
-use Prim.Native.Nat.{ℕ, ◌/◌, ◌%◌}
-use mathlib.Core.Path.{◌≡◌, ◌∙◌}
-use mathlib.Core.List.{List, [], ◌∷◌}
-use lib.ListN.{length}
-use Rattle.refusal.specs.declared.Refusal.{Refusal}
-use Rattle.refusal.specs.Answer.{written_by}
-use Rattle.refusal.proofs.Firsts.{same_number, written_accepted}
-use Rattle.words.specs.Bytes.{bytes_of, pairs_refusal}
-use Rattle.words.proofs.Bytes.{pairs_accepted}
+-- `captions::fill_head` meets its contract: eight bytes, two and two are the twelve of a head. Assumes nothing.
+use Prim.Native.Nat.{ℕ, ◌-◌}
+use mathlib.Core.Path.{◌≡◌, ap, ◌∙◌}
+use mathlib.Core.List.{List, [], ◌++◌}
+use native.Mathlib.Nat.{div-one}
+use native.Mathlib.Omega.{arith}
+use lib.ListN.{length, take, drop, length-drop}
+use borrow.Rule.Slice.PartMut.{put_mid}
+use Rattle.std.proofs.lemmas.List.{drop_all}
+use Rattle.std.specs.Int.{w32, w64, to_le_bytes}
+use Rattle.words.specs.Words.{tab_from}
 use Rattle.captions.specs.declared.Entry.{Entry}
-use Rattle.captions.specs.Entry.{head_length, head_of}
-use Rattle.captions.proofs.Heads.{head_words}
+use Rattle.captions.specs.Entry.{head_of}
 use Rattle.captions.proofs.fill_head.Goals as goal
 
-module _ (e : Entry) (a b c d s w : ℕ) (r : Refusal) (head after : List ℕ) where
-  filled : a ≡ e.ordinal % 65536 → b ≡ e.ordinal / 65536 % 65536 → c ≡ e.ordinal / 4294967296 % 65536
-      → d ≡ e.ordinal / 281474976710656 % 65536 → s ≡ e.space % 65536 → w ≡ e.words % 65536 → length head ≡ head_length
-      → r ≡ pairs_refusal (length head) 6 → after ≡ written_by r (bytes_of (a ∷ b ∷ c ∷ d ∷ s ∷ w ∷ [])) head → after ≡ head_of e
-  filled ea eb ec ed es ew long answer written =
-      written ∙ written_accepted r _ head (same_number (answer ∙ pairs_accepted (length head) 6 long)) ∙ simp (ea, eb, ec, ed, es, ew) (head_words e)
+module _ (e : Entry) where
+  -- the twelve bytes, and nothing of a head is left behind them
+  twelve : (rest : List ℕ) → rest ≡ []
+      → to_le_bytes w64 e.ordinal ++ (take 2 (to_le_bytes w32 e.space) ++ (take 2 (to_le_bytes w32 e.words) ++ rest)) ≡ head_of e
+  unfolding head_of tab_from
+  twelve rest none = simp (div-one, none)
+
+  filled : (head ordinal space words : List ℕ) → ordinal ≡ to_le_bytes w64 e.ordinal → space ≡ take 2 (to_le_bytes w32 e.space)
+      → words ≡ take 2 (to_le_bytes w32 e.words)
+      → (let ten = put_mid 8 2 (ordinal ++ drop 8 head) space in put_mid 10 (length ten - 10) ten words) ≡ head_of e
+  filled head ordinal space words eo es ew =
+      let ten = put_mid 8 2 (to_le_bytes w64 e.ordinal ++ drop 8 head) (take 2 (to_le_bytes w32 e.space)) in
+      let none : drop (length ten - 10) (drop 10 ten) ≡ [] = drop_all (length ten - 10) (drop 10 ten) (omega (arith, length-drop 10 ten)) in
+      rw (eo, es, ew) (twelve _ none)
 
 pub returns : goal.returns
 returns c =
-    filled c.args.entry _ _ _ _ _ _ c.to_bytes.result c.args.head.now _ c.low.ensures c.low-2.ensures
-    c.low-3.ensures c.low-4.ensures c.low-5.ensures c.low-6.ensures c.requires c.to_bytes.ensures.answer
-    c.to_bytes.ensures.bytes
+    filled c.args.entry c.args.head.now _ _ _ (c.copy_from_slice.ensures.after ∙ c.to_le_bytes.ensures)
+    (c.copy_from_slice-2.ensures.after ∙ ap (take 2) c.to_le_bytes-2.ensures)
+    (c.copy_from_slice-3.ensures.after ∙ ap (take 2) c.to_le_bytes-3.ensures)

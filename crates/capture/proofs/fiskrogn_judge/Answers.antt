@@ -1,5 +1,4 @@
 -- `capture::fiskrogn_judge` meets its contract: a refusal's number and place are small enough for one answer. Assumes nothing.
-use borrow.Author.Rules.{rules}
 use Prim.Native.Nat.{ℕ, ◌+◌, ◌*◌}
 use mathlib.Core.Path.{◌≡◌, sym, ap, subst, ◌∙◌}
 use mathlib.Core.List.{List}

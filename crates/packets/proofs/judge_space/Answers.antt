@@ -1,18 +1,14 @@
--- `packets::judge_space` meets its contract: the pass over the clamped space finds it well, or the scan judges it. Assumes nothing.
-use Prim.Native.Nat.{ℕ}
-use mathlib.Core.Path.{sym, ap, ◌∙◌}
-use borrow.Author.Rules.{rules}
-use Rattle.packets.specs.Fault.{word_at, space_to}
+-- `packets::judge_space` meets its contract: the words behind the space do not matter. Assumes nothing.
+use Rattle.std.proofs.Common.{sym, ◌∙◌}
+use Rattle.packets.proofs.Local.{space_taken}
 use Rattle.packets.proofs.judge_space.Goals as goal
 
-pub returns-then-passed : goal.returns-then-passed
-returns-then-passed c =
+pub returns-in-Some : goal.returns-in-Some
+returns-in-Some c =
     let a = c.args in
-    sym (c.pass-passed.ensures c.if-passed.true)
-    ∙ ap (λ (n : ℕ). space_to (word_at a.words.now) a.start n a.even a.odd) c.least-stop.ensures.0
+    sym c.in-Some.ensures ∙ space_taken a.words.now a.start c.min.result a.end a.fill.even a.fill.odd c.min.ensures
 
-pub returns : goal.returns
-returns c =
+pub returns-in-None : goal.returns-in-None
+returns-in-None c =
     let a = c.args in
-    c.scan.ensures
-    ∙ ap (λ (n : ℕ). space_to (word_at a.words.now) a.start n a.even a.odd) c.least-stop.ensures.0
+    c.scan.ensures ∙ space_taken a.words.now a.start c.min.result a.end a.fill.even a.fill.odd c.min.ensures

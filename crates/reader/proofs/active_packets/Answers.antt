@@ -1,59 +1,34 @@
 -- `reader::active_packets` meets its contract: where the line is accepted its packets are words of it. Assumes nothing.
-use borrow.Author.Rules.{rules}
-use Prim.Native.Nat.{ℕ, ◌+◌, ◌-◌, ◌≤◌}
-use mathlib.Core.Path.{◌≡◌, sym, ap, ◌∙◌}
-use mathlib.Core.List.{List, []}
+use Rattle.std.proofs.Common.{sym, ap, ◌∙◌}
 use native.Mathlib.Omega.{arith}
-use lib.ListN.{length, take, drop}
-use Rattle.system.specs.declared.System.{System}
-use Rattle.system.specs.declared.walk.Walk.{Walk}
-use Rattle.system.specs.declared.walk.Judgement.{Judgement}
-use Rattle.system.specs.Figures.{active_offset, system_of}
-use Rattle.system.specs.Walk.{line_words}
-use Rattle.system.proofs.Laws.{sav_high}
-use Rattle.reader.specs.Judge.{judge_refusal, judged_of, active_packets_of}
-use Rattle.reader.proofs.Judged.{answered, active_packets_refused, active_packets_accepted, active_packets_fit}
+use Rattle.refusal.proofs.Firsts.{same_number}
+use Rattle.refusal.proofs.Results.{reason_counts}
+use Rattle.system.specs.Figures.{active_offset}
+use Rattle.reader.proofs.Judged.{active_packets_refused, active_packets_lent, active_packets_lent_fits}
 use Rattle.reader.proofs.active_packets.Goals as goal
 
--- the line that was judged, and where its active part starts
-module _ (w : Walk) (words : List ℕ) (j : Judgement) (is-judged : j ≡ judged_of w words) where
-  nothing : (j.number ≡ 0 → ⊥) → [] ≡ active_packets_of w words
-  nothing n = sym (active_packets_refused w words (λ z. n (answered (length words) (line_words w) w words j is-judged ∙ z)))
+pub returns-in_default : goal.returns-in_default
+returns-in_default c =
+    sym (active_packets_refused c.args.walk c.args.words.now
+    (λ z. reason_counts c.in_default.field-0.reason (same_number c.in_default.ensures.answer ∙ z)))
 
-  module _ (z : j.number ≡ 0) (s : System) (system_is : s ≡ system_of w.system) (start : ℕ) (start_is : start ≡ active_offset s) where
-    well : (judge_refusal w words).number ≡ 0
-    well = sym (answered (length words) (line_words w) w words j is-judged) ∙ z
-
-    start_due : start ≡ active_offset (system_of w.system)
-    start_due = start_is ∙ ap active_offset system_is
-
-    fits : start + j.packets.active ≤ length words
-    fits = rw (start_due, is-judged) (active_packets_fit w words well)
-
-    part : take (start + j.packets.active - start) (drop start words) ≡ active_packets_of w words
-    part =
-        let e : start + j.packets.active - start ≡ j.packets.active = omega arith in
-        rw (e, start_due, is-judged) (sym (active_packets_accepted w words well))
-
-pub returns-then-judgement-ne0 : goal.returns-then-judgement-ne0
-returns-then-judgement-ne0 c =
-    let a = c.args in
-    nothing a.walk a.words.now _ c.judge-judgement.ensures c.if-judgement-ne0.true
-
-pub overflow_add-end : goal.overflow_add-end
-overflow_add-end c =
-    let a = c.args in
-    omega (arith, fits a.walk a.words.now _ c.judge-judgement.ensures c.if-judgement-ne0.false _ c.system_of.ensures _ c.active_offset-start.ensures)
-
-pub offset_bounds-words-start : goal.offset_bounds-words-start
-offset_bounds-words-start c = omega (arith, c.active_offset-start.ensures, sav_high c.system_of.result)
+pub overflow_add-result : goal.overflow_add-result
+overflow_add-result c =
+    omega (
+      arith,
+      active_packets_lent_fits c.args.walk c.args.words.now _ c.in-Ok.ensures.judgement c.in-Ok.ensures.answer _
+          (c.active_offset-start.ensures ∙ ap active_offset c.system_of.ensures),
+    )
 
 pub slice_bounds-result-end-2 : goal.slice_bounds-result-end-2
 slice_bounds-result-end-2 c =
-    let a = c.args in
-    omega (arith, fits a.walk a.words.now _ c.judge-judgement.ensures c.if-judgement-ne0.false _ c.system_of.ensures _ c.active_offset-start.ensures)
+    omega (
+      arith,
+      active_packets_lent_fits c.args.walk c.args.words.now _ c.in-Ok.ensures.judgement c.in-Ok.ensures.answer _
+          (c.active_offset-start.ensures ∙ ap active_offset c.system_of.ensures),
+    )
 
 pub returns : goal.returns
 returns c =
-    let a = c.args in
-    part a.walk a.words.now _ c.judge-judgement.ensures c.if-judgement-ne0.false _ c.system_of.ensures _ c.active_offset-start.ensures
+    active_packets_lent c.args.walk c.args.words.now _ c.in-Ok.ensures.judgement c.in-Ok.ensures.answer _
+    (c.active_offset-start.ensures ∙ ap active_offset c.system_of.ensures)

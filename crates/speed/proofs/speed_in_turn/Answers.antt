@@ -1,5 +1,4 @@
 -- `speed::speed_in_turn` meets its contract: where the judge refuses, its answer is that of both, and else taking's is. Assumes nothing.
-use borrow.Author.Rules.{rules}
 use Prim.Native.Nat.{ℕ}
 use mathlib.Core.Path.{◌≡◌, sym, ap, ◌∙◌}
 use mathlib.Core.List.{List}
@@ -38,4 +37,4 @@ returns c =
     let a = c.args in
     let b : Samples = record { y = a.y.now; cb = a.cb.now; cr = a.cr.now } in
     let walk = c.of-walk.ensures in
-    record { answer = taken (fresh_walk a.system a.line) a.words.now b _ (rw walk at c.take.ensures.answer); ys = rw walk at c.take.ensures.ys; cbs = rw walk at c.take.ensures.cbs; crs = rw walk at c.take.ensures.crs }
+    record { answer = taken (fresh_walk a.system a.line) a.words.now b _ (c.of.ensures ∙ (rw walk at c.take.ensures.answer)); ys = rw walk at c.take.ensures.ys; cbs = rw walk at c.take.ensures.cbs; crs = rw walk at c.take.ensures.crs }

@@ -1,5 +1,4 @@
 -- `timing::legal` meets its contract: the code's bits are the document's for each F, V and H, which is computed. Assumes nothing.
-use borrow.Author.Rules.{rules}
 use Prim.Native.Nat.{ℕ, ◌*◌, ◌/◌, ◌%◌}
 use native.Mathlib.Omega.{arith}
 use lib.Bits.{bit_xor}

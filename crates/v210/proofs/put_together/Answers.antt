@@ -3,7 +3,7 @@ use Prim.Native.Nat.{ℕ, ◌+◌, ◌*◌, ◌/◌, ◌%◌, ◌<◌}
 use mathlib.Core.Path.{◌≡◌, sym, ap, ◌∙◌}
 use mathlib.Core.List.{List}
 use native.Mathlib.Omega.{arith}
-use lib.ListN.{set, length-set}
+use lib.ListN.{get_or, set, length-set}
 use Rattle.words.proofs.Tabs.{is_tab}
 use Rattle.v210.specs.Row.{row_length, row_words, samples_word, eight_bits, row_byte, packed_of}
 use Rattle.v210.proofs.Places.{byte_at}
@@ -38,28 +38,11 @@ four_more samples row k word first second third fourth l p w a b c d =
           (d ∙ sym (at 3 (omega arith))) j (omega arith);
     }
 
-pub loop-k-init : goal.loop-k-init
-loop-k-init c = record { within = omega arith; long = omega arith; bytes = λ j l. absurd (omega arith) }
-
-pub word_of-word-requires : goal.word_of-word-requires
-word_of-word-requires c =
-    let small = c.requires.2 in
-    (small _ (omega arith), small _ (omega arith), small _ (omega arith))
-
-pub bounds-row-k-in-loop-k : goal.bounds-row-k-in-loop-k
-bounds-row-k-in-loop-k c = simp length-set (omega arith)
-
-pub bounds-row-k-in-loop-k-2 : goal.bounds-row-k-in-loop-k-2
-bounds-row-k-in-loop-k-2 c = simp length-set (omega arith)
-
-pub bounds-row-k-in-loop-k-3 : goal.bounds-row-k-in-loop-k-3
-bounds-row-k-in-loop-k-3 c = simp length-set (omega arith)
-
 pub loop-k-preserved : goal.loop-k-preserved
 loop-k-preserved c =
-    four_more c.args.samples.now c.loop-k.row c.loop-k.k c.word_of-word.result _ _ _ _
-    c.loop-k-test.true c.loop-k.invariant c.word_of-word.ensures c.eight_bits.ensures c.eight_bits-in-loop-k.ensures
-    c.eight_bits-in-loop-k-2.ensures c.eight_bits-in-loop-k-3.ensures
+    let byte : (i : ℕ) → _ = λ i. ap (λ (bytes : List ℕ). get_or bytes i 0) c.to_le_bytes.ensures in
+    four_more c.args.samples.now c.loop-k.row c.loop-k.k c.word_of-word.result _ _ _ _ c.loop-k-test.true c.loop-k.invariant
+    c.word_of-word.ensures (byte 0) (byte 1) (byte 2) (byte 3)
 
 pub returns : goal.returns
 unfolding packed_of

@@ -35,15 +35,6 @@ three_more row samples k word first second third l t w a b c =
           (c ∙ sym (at 2 (omega arith))) j (omega arith);
     }
 
-pub loop-k-init : goal.loop-k-init
-loop-k-init c = record { within = omega arith; long = omega arith; taken = λ j l. absurd (omega arith) }
-
-pub bounds-samples-k-in-loop-k : goal.bounds-samples-k-in-loop-k
-bounds-samples-k-in-loop-k c = simp length-set (omega arith)
-
-pub bounds-samples-k-in-loop-k-2 : goal.bounds-samples-k-in-loop-k-2
-bounds-samples-k-in-loop-k-2 c = simp length-set (omega arith)
-
 pub loop-k-preserved : goal.loop-k-preserved
 loop-k-preserved c =
     three_more c.args.row.now c.loop-k.samples c.loop-k.k c.word_at-word.result _ _ _

@@ -1,18 +1,6 @@
--- `v210::unpack_refusal` meets its contract: each return has passed the tests before it and met its own. Assumes nothing.
-use mathlib.Core.Path.{sym, ◌∙◌}
-use borrow.Author.Tests.{eq-eqb, ne_eqb}
-use Rattle.refusal.specs.Answer.{or_else}
-use Rattle.v210.specs.Row.{unpack_refusal}
-use Rattle.v210.proofs.Refusals.{unpack_measured}
+-- `v210::unpack_refusal` meets its contract: past the lengths the row is as long as is due. Assumes nothing.
+use Rattle.v210.proofs.Refusals.{unpack_long}
 use Rattle.v210.proofs.unpack_refusal.Goals as goal
 
-pub returns-then-row-ne-ROW_LENGTH : goal.returns-then-row-ne-ROW_LENGTH
-unfolding unpack_refusal or_else
-returns-then-row-ne-ROW_LENGTH c = simp (ne_eqb _ _ c.if-row-ne-ROW_LENGTH.true)
-
-pub returns-then-room-ne-ACTIVE_LENGTH : goal.returns-then-room-ne-ACTIVE_LENGTH
-unfolding unpack_refusal or_else
-returns-then-room-ne-ACTIVE_LENGTH c = simp (eq-eqb _ _ c.if-row-ne-ROW_LENGTH.false, ne_eqb _ _ c.if-room-ne-ACTIVE_LENGTH.true)
-
-pub returns : goal.returns
-returns c = c.spare_refusal.ensures ∙ sym (unpack_measured _ _ c.if-row-ne-ROW_LENGTH.false c.if-room-ne-ACTIVE_LENGTH.false)
+pub spare_refusal-requires : goal.spare_refusal-requires
+spare_refusal-requires c = unpack_long _ c.args.room c.in_ok-lengths_refusal.ensures

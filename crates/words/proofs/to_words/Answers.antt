@@ -1,32 +1,20 @@
 -- `words::to_words` meets its contract: a refusal comes before the first store. Assumes nothing.
-use Prim.Native.Nat.{ℕ, ◌*◌, ◌/◌}
-use mathlib.Core.Path.{◌≡◌, sym, ap, ◌∙◌}
+use Rattle.std.proofs.Common.{ℕ, ◌*◌, ◌/◌, ◌≡◌, length, ap, sym, ◌∙◌}
 use native.Mathlib.Omega.{arith}
-use lib.ListN.{length}
-use Rattle.refusal.proofs.Firsts.{same_number, written_accepted, written_refused}
+use Rattle.refusal.proofs.Firsts.{same_number}
+use Rattle.refusal.proofs.Results.{err_stays, ok_written}
 use Rattle.words.specs.Words.{tab}
 use Rattle.words.specs.Bytes.{word_of_bytes, words_of}
 use Rattle.words.proofs.Bytes.{pairs_fit}
 use Rattle.words.proofs.to_words.Goals as goal
 
-pub returns-then-refusal-ne0 : goal.returns-then-refusal-ne0
-returns-then-refusal-ne0 c =
-    let asked = c.pairs_refusal-refusal in
-    record { answer = asked.ensures; words = sym (written_refused asked.result _ _ c.if-refusal-ne0.true) }
+pub returns-in_err-pairs_refusal-clause-words : goal.returns-in_err-pairs_refusal-clause-words
+returns-in_err-pairs_refusal-clause-words c = err_stays c.from_residual.result c.from_residual.ensures.0 _ _
 
-pub copy_words-requires : goal.copy_words-requires
-copy_words-requires c =
-    let asked = c.pairs_refusal-refusal in
-    pairs_fit _ _ (sym (same_number asked.ensures) ∙ c.if-refusal-ne0.false)
-
-pub returns : goal.returns
+pub returns-clause-words : goal.returns-clause-words
 unfolding words_of
-returns c =
-    let start = c.args in
-    let asked = c.pairs_refusal-refusal in
-    let twice = pairs_fit (length start.bytes.now) (length start.words.now) (sym (same_number asked.ensures) ∙ c.if-refusal-ne0.false) in
-    let half : length start.words.now ≡ length start.bytes.now / 2 = omega (arith, twice) in record {
-      answer = asked.ensures;
-      words = c.copy_words.ensures ∙ ap (λ (n : ℕ). tab n (λ k. word_of_bytes start.bytes.now (2 * k))) half
-          ∙ sym (written_accepted asked.result _ _ c.if-refusal-ne0.false);
-    }
+returns-clause-words c =
+    let bytes = c.args.bytes.now in
+    let twice = pairs_fit (length bytes) (length c.args.words.now) (sym (same_number c.in_ok-pairs_refusal.ensures)) in
+    let half : length c.args.words.now ≡ length bytes / 2 = omega (arith, twice) in
+    c.copy_words.ensures ∙ ap (λ (n : ℕ). tab n (λ k. word_of_bytes bytes (2 * k))) half ∙ ok_written _ _

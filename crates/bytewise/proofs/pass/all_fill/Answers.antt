@@ -1,8 +1,7 @@
 -- `bytewise::pass::all_fill` meets its contract. The loop's invariant: where all was good so far, each pair passed is the two words. Two
 -- words of 16 bits are told apart in the one number. Assumes nothing.
-use Rattle.std.proofs.Common.{◌≡◌, ℕ, ◌+◌, ◌-◌, ◌*◌, ◌≤◌, true, sym, ap, ◌∙◌, arith, rules, eqb-true}
+use Rattle.std.proofs.Common.{ℕ, sym, ap, ◌∙◌, arith, eqb-true}
 use Rattle.words.specs.Bytes.{word_of_bytes}
-use Rattle.words.specs.Passes.{Filled}
 use Rattle.words.proofs.Passes.{still_well, halves}
 use Rattle.bytewise.proofs.pass.all_fill.Goals as goal
 
@@ -18,8 +17,8 @@ loop-k-preserved c =
       omega arith,
       still_well _ c.loop-k.good _ k c.loop-k.invariant.1
           (λ t.
-          let two = halves first.result second.result a.even a.odd (omega arith) (omega arith)
-          (sym c.pair_of.ensures ∙ eqb-true c.pair_of.result c.pair_of-fill.result t ∙ c.pair_of-fill.ensures) in (
+          let two = halves first.result second.result a.fill.even a.fill.odd (omega arith) (omega arith)
+          (sym c.pair_of.ensures ∙ eqb-true c.pair_of.result c.pair_of-due.result t ∙ c.pair_of-due.ensures) in (
             ap (word_of_bytes a.bytes.now) (omega arith) ∙ sym first.ensures ∙ two.0,
             ap (word_of_bytes a.bytes.now) (omega arith) ∙ sym second.ensures ∙ two.1,
           )),

@@ -1,6 +1,6 @@
 -- `bytewise::pass::all_samples` meets its contract. The loop's invariant: where the highest key so far is a sample's, each word
 -- passed is a sample. Assumes nothing.
-use Rattle.std.proofs.Common.{◌+◌, ◌-◌, ◌*◌, ◌≤◌, arith, to_z-of_z, w16, to_z, rules, below_more}
+use Rattle.std.proofs.Common.{◌+◌, ◌-◌, ◌*◌, ◌≤◌}
 use Rattle.line.specs.Samples.{active_length}
 use Rattle.words.specs.Bytes.{word_of_bytes}
 use Rattle.words.specs.Passes.{Sampled}

@@ -1,8 +1,7 @@
 -- `confirmation::Run::follow` meets its contract. The loop keeps that what it still has to do comes to the whole, and each of its turns is
 -- one of the definition's. The measure is what is left of the bytes. Assumes nothing.
-use Rattle.std.proofs.Common.{◌-◌, length, sym, arith, rules, ltb-false, ltb-true}
-use Rattle.confirmation.proofs.Bodies.{line_has_bytes}
-use Rattle.confirmation.proofs.Reached.{Reached, reached_start, reached_end, reached_short, reached_barred, reached_next}
+use Rattle.std.proofs.Common.{◌-◌, length}
+use Rattle.confirmation.proofs.Reached.{Reached}
 use Rattle.confirmation.proofs.Run.follow.Given as goal
 
 abbrev pub invariant-loop-run : goal.invariant-loop-run

@@ -1,6 +1,6 @@
 -- `finished::Finishing::next` meets its contract: of a clean line nothing is put, and of another its entry, between what stands before it and
 -- behind it. Assumes nothing.
-use Rattle.std.proofs.Common.{◌≡◌, ℕ, ◌+◌, ◌-◌, ◌%◌, ◌^◌, ◌≤◌, List, ◌++◌, length, take, drop, sym, ap, ◌∙◌, ap₂, arith, length-drop, take-append-drop, length-take-le, eq-eqb, ne_eqb}
+use Rattle.std.proofs.Common.{◌≡◌, ℕ, ◌+◌, ◌-◌, ◌%◌, ◌^◌, ◌≤◌, List, ◌++◌, length, take, drop, sym, refl, ap, ◌∙◌, ap₂, arith, length-drop, take-append-drop, length-take-le, eq-eqb, ne_eqb}
 use Rattle.refusal.specs.Answer.{none}
 use Rattle.refusal.proofs.Firsts.{same_number, written_accepted}
 use Rattle.timing.specs.Report.{repairs_of}
@@ -67,13 +67,13 @@ module _ (f : Finishing) (line room : List ℕ) (at : ℕ) (judgement : Judgemen
 pub returns-then-repairs-eq0 : goal.returns-then-repairs-eq0
 returns-then-repairs-eq0 c =
     let both = let a = c.args in
-    clean a.self a.line.now a.room.now a.at c.judge-judgement.result _ _ c.judge-judgement.ensures c.judged-after.ensures
+    clean a.self a.line.now a.room.now a.at c.judge-judgement.result _ _ c.judge-judgement.ensures c.judged.ensures
     c.repairs-repairs.ensures c.if-repairs-eq0.true in
     record { state = both.0; put = both.1.0; room = both.1.1 }
 
 pub returns : goal.returns
 returns c =
     let both = let a = c.args in
-    unclean a.self a.line.now a.room.now a.at c.judge-judgement.result _ _ c.judge-judgement.ensures c.judged-after.ensures
-    c.repairs-repairs.ensures _ _ c.if-repairs-eq0.false c.wrapping_add_u32.ensures.value c.requires c.put.ensures.room in
+    unclean a.self a.line.now a.room.now a.at c.judge-judgement.result _ _ c.judge-judgement.ensures c.judged.ensures
+    c.repairs-repairs.ensures _ _ c.if-repairs-eq0.false refl c.requires c.put.ensures.room in
     record { state = both.0; put = both.1.0; room = both.1.1 }

@@ -2,7 +2,6 @@
 use mathlib.Core.Path.{ap, ◌∙◌}
 use Prim.Native.Nat.{ℕ, ◌+◌, ◌*◌}
 use Rattle.packets.specs.Packet.{inverted, header_of}
-use borrow.Author.Rules.{rules}
 use Rattle.packets.proofs.fault.header_word.Goals as goal
 
 pub returns : goal.returns

@@ -1,24 +1,16 @@
--- `packets::pass::sum_of` meets its contract. The loop's invariant: the sum is that of the words passed, each below 512. Assumes nothing.
-use borrow.Author.Rules.{rules}
-use Prim.Native.Nat.{◌-◌, ◌*◌, ◌≤◌}
-use mathlib.Core.Path.{◌≡◌, ap, ◌∙◌}
-use native.Mathlib.Omega.{arith}
-use native.Mathlib.Numerals.{add-one}
-use Rattle.packets.specs.Due.{sum_from}
-use Rattle.packets.specs.Fault.{word_at}
+-- `packets::pass::sum_of` meets its contract: the sum of the words' low nine bits, one after another. Assumes nothing.
+use Rattle.std.proofs.Common.{rules, ℕ, ◌+◌, ◌%◌, ◌≡◌, ◌∙◌, refl, ap, List, [], ◌∷◌}
+use Rattle.std.specs.List.{sum_by}
+use Rattle.std.proofs.lemmas.List.Sums.{sum_by-cons}
+use Rattle.packets.specs.Packet.{sum_of}
 use Rattle.packets.proofs.pass.sum_of.Goals as goal
 
-pub loop-k-init : goal.loop-k-init
-unfolding sum_from
-loop-k-init c = search rules
-
-pub loop-k-preserved : goal.loop-k-preserved
-unfolding sum_from
-loop-k-preserved c = (omega arith, rw add-one (omega arith), omega arith)
+low_sum : (ws : List ℕ) → sum_by (λ w. w % 512) ws ≡ sum_of ws
+unfolding sum_of
+low_sum [] = refl
+low_sum (w ∷ ws) = sum_by-cons (λ v. v % 512) w ws ∙ ap (λ (n : ℕ). w % 512 + n) (low_sum ws)
 
 pub returns : goal.returns
 returns c =
-    let at = c.loop-k in
-    let from = c.args.from in
-    let e : at.k ≡ c.args.count = omega arith in
-    (at.invariant.1 ∙ ap (sum_from (word_at c.args.words.now) from) e, omega arith)
+    let e : c.sum.result ≡ sum_by (λ w. w % 512) c.args.words.now = search rules in
+    e ∙ low_sum c.args.words.now

@@ -1,5 +1,4 @@
 -- `programme::extractor::gives_row` meets its contract: the fourth word is that of the line's EAV. Assumes nothing.
-use borrow.Author.Rules.{rules}
 use Prim.Native.Nat.{ℕ, ◌*◌, ◌/◌, ◌≤◌}
 use mathlib.Core.Path.{◌≡◌, sym, ap, ◌∙◌}
 use mathlib.Core.Bool.{not}
@@ -21,5 +20,5 @@ pub returns : goal.returns
 unfolding gives_row
 returns c =
     let a = c.args in
-    ap (λ (d : Due). not d.v) c.due-due.ensures
+    ap (λ (d : Due). not d.v) c.due.ensures
     ∙ ap (λ (n : ℕ). not (due_by a.walk n).v) (c.word_of.ensures ∙ sym (fourth_word a.bytes.now c.requires))

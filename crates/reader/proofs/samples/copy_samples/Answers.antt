@@ -1,13 +1,11 @@
 -- `reader::samples::copy_samples` meets its contract. The loop's invariant: each group passed has its samples in their places. Assumes nothing.
-use Prim.Native.Nat.{ℕ, ◌+◌, ◌-◌, ◌*◌, ◌<◌, ◌≤◌}
-use mathlib.Core.Path.{◌≡◌, refl, ap}
-use mathlib.Core.List.{List}
+use Prim.Native.Nat.{ℕ, ◌+◌, ◌*◌}
+use mathlib.Core.Path.{refl, ap}
 use native.Mathlib.Omega.{arith}
-use lib.ListN.{length, get_or, set, length-set}
+use lib.ListN.{get_or, set, length-set}
 use Rattle.line.specs.Samples.{y_length, c_length}
 use Rattle.words.proofs.Tabs.{is_tab}
 use Rattle.words.proofs.Stores.{store_more}
-use Rattle.reader.proofs.samples.copy_samples.Invariants.{Taken}
 use Rattle.reader.proofs.samples.copy_samples.Goals as goal
 
 pub loop-k-init : goal.loop-k-init

@@ -1,12 +1,9 @@
 -- `reader::samples::copy_samples` meets its contract. The loop's invariant: each group passed has its samples in their places. Assumes nothing.
 use Prim.Native.Nat.{ℕ, ◌+◌, ◌-◌, ◌*◌, ◌<◌, ◌≤◌}
-use mathlib.Core.Path.{◌≡◌, refl, ap}
+use mathlib.Core.Path.{◌≡◌}
 use mathlib.Core.List.{List}
-use native.Mathlib.Omega.{arith}
-use lib.ListN.{length, get_or, set, length-set}
+use lib.ListN.{length, get_or}
 use Rattle.line.specs.Samples.{y_length, c_length}
-use Rattle.words.proofs.Tabs.{is_tab}
-use Rattle.words.proofs.Stores.{store_more}
 use Rattle.reader.proofs.samples.copy_samples.Given as goal
 
 -- the samples of k groups are taken

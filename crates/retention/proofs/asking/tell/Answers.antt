@@ -1,16 +1,23 @@
 -- `retention::asking::tell` meets its contract: test by test. Assumes nothing.
-use Rattle.std.proofs.Common.{refl}
-use Rattle.retention.proofs.Turns.{ask_refused, ask_unwritten, ask_clean, ask_unclean}
+use Rattle.std.proofs.Common.{true, false, ne_eqb}
+use Rattle.refusal.specs.Reasons.{number_of}
+use Rattle.refusal.proofs.Results.{reason_counts}
+use Rattle.retention.specs.Turn.{asked_status}
 use Rattle.retention.proofs.asking.tell.Goals as goal
 
-pub returns-then-asked-ne0 : goal.returns-then-asked-ne0
-returns-then-asked-ne0 c = ask_refused c.args.asked _ c.if-asked-ne0.true refl
+pub returns-in-Err : goal.returns-in-Err
+unfolding asked_status
+returns-in-Err c =
+    let reason = c.in-Err.refused.reason in (true, simp (c.in-Err.is, ne_eqb (number_of reason) 0 (reason_counts reason)))
 
 pub returns-then-not-print_answer : goal.returns-then-not-print_answer
-returns-then-not-print_answer c = ask_unwritten c.args.asked _ c.if-asked-ne0.false refl
+unfolding asked_status
+returns-then-not-print_answer c = (false, simp c.in-Ok.is)
 
-pub returns-then-asked : goal.returns-then-asked
-returns-then-asked c = ask_clean c.args.asked _ c.if-asked-ne0.false c.if-asked.true refl
+pub returns-then-clean : goal.returns-then-clean
+unfolding asked_status
+returns-then-clean c = (true, simp (c.in-Ok.is, c.if-clean.true))
 
-pub returns : goal.returns
-returns c = ask_unclean c.args.asked _ c.if-asked-ne0.false c.if-asked.false refl
+pub returns-else-clean : goal.returns-else-clean
+unfolding asked_status
+returns-else-clean c = (true, simp (c.in-Ok.is, c.if-clean.false))

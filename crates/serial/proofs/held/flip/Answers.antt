@@ -1,17 +1,29 @@
--- `flip` meets its contract: followed on the bits, it is the list reversed. Assumes nothing.
+-- `flip` meets its contract: of all 32 bits turned round the low nine come last, and the shift leaves them. Assumes nothing.
+use mathlib.Core.Path.{◌≡◌, refl, sym, ap, ◌∙◌}
+use mathlib.Core.Bool.{Bool}
+use mathlib.Core.List.{List, [], ◌∷◌}
+use Prim.Native.Nat.{ℕ, zero, suc, ◌+◌, ◌*◌, ◌/◌, ◌%◌, ◌^◌}
+use native.Mathlib.Nat.{mod-lt}
 use native.Mathlib.Omega.{arith}
-use Rattle.serial.proofs.Machine.{is_bits, is_xor, is_shr, is_shl, is_mask}
+use Rattle.std.specs.Int.{reverse_bits_onto}
+use Rattle.serial.specs.Bits.{one?, num}
+use Rattle.serial.proofs.Bits.{digit_one}
+use Rattle.serial.proofs.Machine.{num_shr}
 use Rattle.serial.proofs.held.flip.Goals as goal
 
+-- k bits, lowest first, each put before those that came before it
+flipped : ℕ → ℕ → List Bool → List Bool
+flipped zero n bs = bs
+flipped (suc k) n bs = flipped k (n / 2) (one? (n % 2) ∷ bs)
+
+reversed : (k n : ℕ) (bs : List Bool) → reverse_bits_onto k n (num bs) ≡ num (flipped k n bs)
+unfolding reverse_bits_onto flipped
+reversed zero n bs = refl
+reversed (suc k) n bs =
+    ap (λ (d : ℕ). reverse_bits_onto k (n / 2) (num bs * 2 + d)) (sym (digit_one (n % 2) (mod-lt n (omega arith))))
+    ∙ reversed k (n / 2) (one? (n % 2) ∷ bs)
+
 pub returns : goal.returns
+unfolding flipped
 returns c =
-    let h = is_bits 9 {x = c.args.nine} (omega arith) in
-    let to-8 = is_shl 8 (is_mask 1 h) in
-    let to-7 = is_xor to-8 (is_shl 7 (is_mask 1 (is_shr 1 h))) in
-    let to-6 = is_xor to-7 (is_shl 6 (is_mask 1 (is_shr 2 h))) in
-    let to-5 = is_xor to-6 (is_shl 5 (is_mask 1 (is_shr 3 h))) in
-    let to-4 = is_xor to-5 (is_shl 4 (is_mask 1 (is_shr 4 h))) in
-    let to-3 = is_xor to-4 (is_shl 3 (is_mask 1 (is_shr 5 h))) in
-    let to-2 = is_xor to-3 (is_shl 2 (is_mask 1 (is_shr 6 h))) in
-    let to-1 = is_xor to-2 (is_shl 1 (is_mask 1 (is_shr 7 h))) in
-    (is_xor to-1 (is_shr 8 h)).eq
+    ap (λ (n : ℕ). n / 2 ^ 23) (c.reverse_bits.ensures ∙ reversed 32 c.args.nine []) ∙ num_shr 23 (flipped 32 c.args.nine [])

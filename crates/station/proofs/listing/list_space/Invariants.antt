@@ -1,9 +1,6 @@
--- `station::listing::list_space` is safe and ends: each packet leaves fewer bytes. Assumes nothing.
-use Rattle.std.proofs.Common.{◌-◌, ◌≤◌, length}
+-- `station::listing::list_space` ends: each packet leaves fewer bytes. Assumes nothing.
+use Rattle.std.proofs.Common.{length}
 use Rattle.station.proofs.listing.list_space.Given as goal
 
-abbrev pub invariant-loop-at : goal.invariant-loop-at
-invariant-loop-at l = l.at ≤ length l.bytes
-
-abbrev pub decreases-loop-at : goal.decreases-loop-at
-decreases-loop-at l = length l.bytes - l.at
+abbrev pub decreases-loop-size : goal.decreases-loop-size
+decreases-loop-size l = length l.rest

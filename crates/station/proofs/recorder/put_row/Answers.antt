@@ -1,79 +1,54 @@
 -- `station::recorder::put_row` meets its contract: each turn writes one line, and the row is taken by the first that can. Assumes nothing.
-use Rattle.std.proofs.Common.{◌≡◌, suc, ◌-◌, length, sym, refl, ap, ◌∙◌, true≢false, arith}
+use Rattle.std.proofs.Common.{◌≡◌, suc, ◌+◌, ◌-◌, length, sym, ap, ◌∙◌, refl, arith}
+use Rattle.programme.specs.Tape.{most_turns}
 use Rattle.station.specs.declared.entries.Entries.{Entries}
 use Rattle.station.proofs.Lines.{bare_line, onto_left, onto_taken, onto_passed, row_done, row_goes_on, row_left}
 use Rattle.station.proofs.recorder.put_row.Goals as goal
 
-pub loop-lines-init : goal.loop-lines-init
-loop-lines-init c = (refl, λ v f. f, λ none. (none, refl))
+pub loop-init : goal.loop-init
+loop-init c = (λ v f. f, λ none. (none, refl))
 
-pub shape_of-line-then-at : goal.shape_of-line-then-at
-shape_of-line-then-at c = c.loop-lines.invariant.0
-
-pub returns-then-at : goal.returns-then-at
-returns-then-at c = record { row = λ goes. absurd (true≢false (sym c.if-at.true ∙ goes)); bare = λ none goes. absurd (true≢false (sym c.if-at.true ∙ goes)) }
-
-pub shape_of-line-then-taping : goal.shape_of-line-then-taping
-shape_of-line-then-taping c = c.line-1.given ∙ c.loop-lines.invariant.0
-
-pub returns-then-taping : goal.returns-then-taping
-returns-then-taping c = record { row = λ goes. absurd (true≢false (sym c.if-taping.true ∙ goes)); bare = λ none goes. absurd (true≢false (sym c.if-taping.true ∙ goes)) }
-
-pub shape_of-line-then-is_taken : goal.shape_of-line-then-is_taken
-shape_of-line-then-is_taken c = c.line-1.given ∙ c.loop-lines.invariant.0
-
-pub returns-then-is_taken : goal.returns-then-is_taken
-returns-then-is_taken c =
+pub returns-then-is_taken-clause-row : goal.returns-then-is_taken-clause-row
+returns-then-is_taken-clause-row c =
     let a = c.args in
-    let room = length a.line.now in
-    let here = c.loop-lines.taping in
-    let there = c.at_line-at.ensures.on.on c.if-at.false in
-    let is-taken = sym c.takes_row-is_taken.ensures ∙ c.if-is_taken.true in
-    let left : c.loop-lines.lines ≡ suc (c.loop-lines.lines - 1) = omega (arith, c.loop-lines-test.true) in record {
-      row = λ goes. c.loop-lines.invariant.1 _
-          (onto_taken room a.row.now here.tape here.tape c.at_line-at.result c.put_due-taping.result _ c.loop-lines.lines (c.loop-lines.lines - 1) left
-          there.0 c.loop-lines.invariant.0 (c.put_due-taping.ensures.line.on goes) is-taken);
-      bare = λ none goes.
-          let so_far = c.loop-lines.invariant.2 none in
-          let none_here = ap (λ (e : Entries). e.next) there.1 ∙ so_far.0 in
-          row_done room _ c.loop-lines.invariant.0 a.row.now _ here.tape c.at_line-at.result c.put_due-taping.result c.loop-lines.lines
-          (c.loop-lines.lines - 1) left so_far.1 there.0 (bare_line _ _ _ c.put_due-taping.result (c.put_due-taping.ensures.bare none_here) goes) is-taken;
-    }
+    let here = c.loop.taping in
+    let left : most_turns - c.loop.counter ≡ suc (most_turns - (c.loop.counter + 1)) = omega (arith, c.loop-test.true) in
+    c.loop.invariant.0 _
+    (onto_taken (length a.line.now) a.row.now here.tape here.tape c.in_ok-at.at c.in_ok-taping.taping _ _ _ left c.in_ok-at.ensures.on.on.0 c.loop.auto.line
+    c.in_ok-taping.ensures.line.on (sym c.takes_row-is_taken.ensures ∙ c.if-is_taken.true))
 
-pub overflow_sub-lines : goal.overflow_sub-lines
-overflow_sub-lines c = omega (arith, c.loop-lines-test.true)
-
-pub loop-lines-smaller : goal.loop-lines-smaller
-loop-lines-smaller c = omega (arith, c.loop-lines-test.true)
-
-pub loop-lines-preserved : goal.loop-lines-preserved
-loop-lines-preserved c =
+pub returns-then-is_taken-clause-bare : goal.returns-then-is_taken-clause-bare
+returns-then-is_taken-clause-bare c = λ none.
     let a = c.args in
-    let room = length a.line.now in
-    let here = c.loop-lines.taping in
-    let there = c.at_line-at.ensures.on.on c.if-at.false in
-    let goes = c.if-taping.false in
+    let left : most_turns - c.loop.counter ≡ suc (most_turns - (c.loop.counter + 1)) = omega (arith, c.loop-test.true) in
+    let there = c.in_ok-at.ensures.on.on in
+    let so_far = c.loop.invariant.1 none in
+    let none_here = ap (λ (e : Entries). e.next) there.1 ∙ so_far.0 in
+    row_done (length a.line.now) _ c.loop.auto.line a.row.now _ c.loop.taping.tape c.in_ok-at.at c.in_ok-taping.taping _ _ left so_far.1 there.0
+    (bare_line _ _ _ c.in_ok-taping.taping (c.in_ok-taping.ensures.bare none_here)) (sym c.takes_row-is_taken.ensures ∙ c.if-is_taken.true)
+
+pub loop-preserved : goal.loop-preserved
+loop-preserved c =
+    let a = c.args in
+    let here = c.loop.taping in
+    let there = c.in_ok-at.ensures.on.on in
     let is-passed = sym c.takes_row-is_taken.ensures ∙ c.if-is_taken.false in
-    let left : c.loop-lines.lines ≡ suc (c.loop-lines.lines - 1) = omega (arith, c.loop-lines-test.true) in (
-      c.line-1.given ∙ c.loop-lines.invariant.0,
-      λ v rest. c.loop-lines.invariant.1 v
-          (onto_passed room a.row.now here.tape v c.at_line-at.result c.put_due-taping.result _ c.loop-lines.lines (c.loop-lines.lines - 1) left
-          there.0 c.loop-lines.invariant.0 (c.put_due-taping.ensures.line.on goes) is-passed rest),
+    let left : most_turns - c.loop.counter ≡ suc (most_turns - (c.loop.counter + 1)) = omega (arith, c.loop-test.true) in (
+      λ v rest. c.loop.invariant.0 v
+          (onto_passed (length a.line.now) a.row.now here.tape v c.in_ok-at.at c.in_ok-taping.taping _ _ _ left there.0 c.loop.auto.line
+          c.in_ok-taping.ensures.line.on is-passed rest),
       λ none.
-          let so_far = c.loop-lines.invariant.2 none in
+          let so_far = c.loop.invariant.1 none in
           let none_here = ap (λ (e : Entries). e.next) there.1 ∙ so_far.0 in
-          let bare = bare_line _ _ _ c.put_due-taping.result (c.put_due-taping.ensures.bare none_here) goes in (
+          let bare = bare_line _ _ _ c.in_ok-taping.taping (c.in_ok-taping.ensures.bare none_here) in (
             bare.next ∙ none_here,
-            row_goes_on room _ c.loop-lines.invariant.0 a.row.now _ here.tape c.at_line-at.result c.put_due-taping.result c.loop-lines.lines
-                (c.loop-lines.lines - 1) left so_far.1 there.0 bare is-passed,
+            row_goes_on (length a.line.now) _ c.loop.auto.line a.row.now _ here.tape c.in_ok-at.at c.in_ok-taping.taping _ _ left so_far.1 there.0 bare is-passed,
           ),
     )
 
-pub shape_of-line : goal.shape_of-line
-shape_of-line c = c.loop-lines.invariant.0
+pub returns-clause-row : goal.returns-clause-row
+returns-clause-row c = c.loop.invariant.0 _ (onto_left (length c.args.line.now) c.args.row.now (omega (arith, c.loop-test.false)))
 
-pub returns : goal.returns
-returns c =
-    let a = c.args in
-    let room = length a.line.now in
-    let out : c.loop-lines.lines ≡ 0 = omega (arith, c.loop-lines-test.false) in record { row = λ goes. c.loop-lines.invariant.1 _ (onto_left room a.row.now out); bare = λ none goes. sym ((c.loop-lines.invariant.2 none).1 ∙ row_left room c.loop-lines.lines a.row.now c.loop-lines.taping.tape out) }
+pub returns-clause-bare : goal.returns-clause-bare
+returns-clause-bare c = λ none.
+    sym ((c.loop.invariant.1 none).1 ∙ row_left (length c.args.line.now) _ c.args.row.now c.loop.taping.tape (omega (arith, c.loop-test.false)))

@@ -8,11 +8,13 @@ use native.Mathlib.Omega.{arith}
 use lib.Dec.{leb}
 use lib.ListN.{length}
 use Rattle.refusal.specs.declared.Refusal.{Refusal}
+use Rattle.refusal.specs.declared.Refused.{Refused}
+use Rattle.refusal.specs.Reasons.{number_of, numbered}
 use Rattle.refusal.specs.Table.{Keeps}
 use Rattle.refusal.proofs.Cases.{by_cond}
 use Rattle.refusal.proofs.Firsts.{same_number}
-use Rattle.packets.specs.declared.Space.{Space}
-use Rattle.packets.specs.Fault.{word_at, space_to, space_of, no_word, ready_refusal}
+use Rattle.refusal.proofs.Results.{reason_counts}
+use Rattle.packets.specs.Fault.{Space, word_at, space_to, space_of, no_word, ready_refusal}
 use Rattle.packets.specs.Refusals.{ready_refusals}
 use Rattle.packets.proofs.Ready.{ready_space, ready_none, ready_at, ready_number}
 use Rattle.packets.proofs.Exact.{ready_exact}
@@ -24,26 +26,36 @@ as_ready ready s e =
     e ∙ ap (λ (stop : ℕ). space_to (word_at ready) 0 stop no_word no_word)
     (by_cond (λ n. n ≡ length ready) (leb (length ready) (length ready)) (length ready) (length ready) (λ t. refl) (λ t. refl))
 
--- a fault lies within the words
-within : (start : ℕ) (ready : List ℕ) → ((ready_space ready).number ≡ 0 → ⊥) → start + (ready_space ready).place < start + length ready
-within start ready b = told (ready_exact start ready)
+-- a fault lies within the words, and refuses them at the line's offset
+module _ (start : ℕ) (ready : List ℕ) (r : Refused)
+    (e : record { number = number_of r.reason; place = r.place; packets = 0 } ≡ space_of ready 0 (length ready) no_word no_word)
   where
-    told : Keeps (ready_refusals start ready) (ready_refusal start ready) → start + (ready_space ready).place < start + length ready
-    told (inl (asked, refuses)) = omega (arith, asked.within, ap (λ (r : Refusal). r.place) (ready_at start ready b))
-    told (inr (silent, accepted)) = absurd (b (sym (ready_number start ready) ∙ same_number accepted))
+    judged : record { number = number_of r.reason; place = r.place; packets = 0 } ≡ ready_space ready
+    judged = as_ready ready _ e
 
-pub returns-then-space-eq0 : goal.returns-then-space-eq0
-returns-then-space-eq0 c =
+    at : r.place ≡ (ready_space ready).place
+    at = ap (λ (s : Space). s.place) judged
+
+    bad : (ready_space ready).number ≡ 0 → ⊥
+    bad z = reason_counts r.reason (ap (λ (s : Space). s.number) judged ∙ z)
+
+    within : start + r.place < start + length ready
+    within = told (ready_exact start ready)
+      where
+        told : Keeps (ready_refusals start ready) (ready_refusal start ready) → start + r.place < start + length ready
+        told (inl (asked, refuses)) = omega (arith, asked.within, ap (λ (n : Refusal). n.place) (ready_at start ready bad), at)
+        told (inr (silent, accepted)) = absurd (bad (sym (ready_number start ready) ∙ same_number accepted))
+
+    moved : record { number = number_of r.reason; place = start + r.place } ≡ ready_refusal start ready
+    moved = ap (λ (s : Space). record { number = s.number; place = start + s.place }) judged ∙ sym (ready_at start ready bad)
+
+pub returns-in-Ok : goal.returns-in-Ok
+returns-in-Ok c =
     let a = c.args in
-    sym (ready_none a.start a.ready.now (sym (ap (λ (s : Space). s.number) (as_ready c.args.ready.now _ c.judge_space-space.ensures)) ∙ c.if-space-eq0.true))
+    sym (ready_none a.start a.ready.now (sym (ap (λ (s : Space). s.number) (as_ready a.ready.now _ c.in-Ok.ensures))))
 
-pub overflow_add-result : goal.overflow_add-result
-overflow_add-result c =
-    let place = ap (λ (s : Space). s.place) (as_ready c.args.ready.now _ c.judge_space-space.ensures) in
-    omega (arith, within c.args.start c.args.ready.now (λ z. c.if-space-eq0.false (ap (λ (s : Space). s.number) (as_ready c.args.ready.now _ c.judge_space-space.ensures) ∙ z)), place, c.requires)
+pub overflow_add-start : goal.overflow_add-start
+overflow_add-start c = omega (arith, within c.args.start c.args.ready.now c.in-Err.refused c.in-Err.ensures, c.requires)
 
-pub returns : goal.returns
-returns c =
-    let a = c.args in
-    ap (λ (s : Space). record { number = s.number; place = a.start + s.place }) (as_ready c.args.ready.now _ c.judge_space-space.ensures)
-    ∙ sym (ready_at a.start a.ready.now (λ z. c.if-space-eq0.false (ap (λ (s : Space). s.number) (as_ready c.args.ready.now _ c.judge_space-space.ensures) ∙ z)))
+pub returns-in-Err : goal.returns-in-Err
+returns-in-Err c = ap numbered c.at.ensures ∙ moved c.args.start c.args.ready.now c.in-Err.refused c.in-Err.ensures

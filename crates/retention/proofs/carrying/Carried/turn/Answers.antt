@@ -18,5 +18,5 @@ in_part told buffer have end l m w =
 
 pub turned-requires : goal.turned-requires
 turned-requires c =
-    let room = in_part c.tells-told.result _ c.args.self.have (c.args.self.have + c.least-most.result) (omega arith) (omega (arith, c.least-most.ensures.within.0, c.requires.1)) c.tells-told.ensures.room in
-    (omega (arith, c.requires.0), omega (arith, c.requires.1), room)
+    let room = in_part c.tells-told.result _ c.args.self.now.have (c.args.self.now.have + c.least-most.result) (omega arith) (omega (arith, c.least-most.ensures.within.0, c.requires.1)) c.tells-told.ensures.room in
+    ((omega (arith, c.requires.0), omega (arith, c.requires.1)), room)

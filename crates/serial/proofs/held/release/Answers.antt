@@ -1,9 +1,0 @@
--- `release` meets its contract: the nine bits are turned round, and a bit held is its own digit. Assumes nothing.
-use mathlib.Core.Path.{sym, ap₂}
-use Prim.Native.Nat.{ℕ}
-use Rattle.serial.proofs.Bits.{digit_held}
-use Rattle.serial.proofs.held.release.Goals as goal
-
-pub returns : goal.returns
-returns c =
-    ap₂ (λ (m n : ℕ). record { scrambled = m; last = n }) c.flip.ensures (sym (digit_held c.args.held.last c.requires.one))

@@ -1,9 +1,0 @@
--- `station::recorder::take_rows` is safe and ends: the turns count down, and what is lent keeps its length. Assumes nothing.
-use Rattle.std.proofs.Common.{◌≡◌, length}
-use Rattle.station.proofs.recorder.take_rows.Given as goal
-
-abbrev pub invariant-loop-turns : goal.invariant-loop-turns
-invariant-loop-turns l = (length l.row ≡ length l.initial.row) × (length l.line ≡ length l.initial.line)
-
-abbrev pub decreases-loop-turns : goal.decreases-loop-turns
-decreases-loop-turns l = l.turns
