@@ -1,6 +1,6 @@
 -- Where entries of two lists of bytes are set beside one another: what is left of both tells the same as the whole. Assumes nothing.
 use Rattle.std.proofs.Common.{◌≡◌, ℕ, ◌<◌, Bool, true, false, not, cond, ltb, min, List, ◌∷◌, ◌++◌, length, sym, refl, ap, ◌∙◌, ap₂, arith, length-append, take_at, drop_at, ltb-false, ltb-true}
-use Rattle.refusal.proofs.Cases.{by_test, not_false}
+use Rattle.refusal.proofs.Cases.{by_test, not_true, not_false}
 use Rattle.index.specs.declared.entry.Entry.{Entry}
 use Rattle.index.specs.Entries.{entry_length, entry_of, entries_of}
 use Rattle.finished.specs.declared.meeting.Meeting.{Meeting}
@@ -12,10 +12,6 @@ lower_is a b =
     by_test (ltb b a)
     (λ t. let l = ltb-true b a t in simp t (omega arith))
     (λ t. let l = ltb-false b a t in simp t (omega arith))
-
-not_true : (t : Bool) → not t ≡ true → t ≡ false
-not_true true e = sym e
-not_true false e = refl
 
 -- an entry comes off the front
 entries_first : (bytes part rest : List ℕ) → bytes ≡ part ++ rest → length part ≡ entry_length → entries_of bytes ≡ entry_of part ∷ entries_of rest
