@@ -114,6 +114,7 @@ def figures(source):
         yield protocol.FIGURES, (system,)
     for number in (*WRONG_SYSTEMS, *every_line_number(source)):
         yield protocol.SYSTEM_OF, (number,)
+        yield protocol.SYSTEM_NAMED, (number,)
 
 
 def counted_repairs(source):

@@ -12,7 +12,7 @@ from independent.judge import ACCEPTED, FRESH_STATE, WRONG_LENGTH, system_of
 from independent.protocol import Wide
 from independent.recordings import line_bytes
 from independent.totals import summed
-from independent.words import REFUSALS
+from independent.words import NO_SYSTEM, REFUSALS
 
 
 def fourth(fvh):
@@ -46,6 +46,11 @@ def system_flags(system, line):
 def figures(system):
     due = judge.SYSTEMS[system]
     return due.words, due.sav, judge.active_start(system), due.lines
+
+
+def system_named(number):
+    # "the system is neither 525 nor 625": 1; otherwise it is the one with that number
+    return (*ACCEPTED, number) if number in judge.SYSTEMS else (NO_SYSTEM, 0, 0)
 
 
 def named_refusal(system, line):

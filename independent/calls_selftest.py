@@ -33,6 +33,8 @@ def shared_calls():
     yield "flags", [calls.flags(line) for line in (3, 625)], [(1, 1, 1, 0), (0, 0, 1, 1)]
     yield "flags outside", [calls.flags(line) for line in (0, 626)], [(0, 0, 0, 0)] * 2
     yield "systems", [judge.system_of(n) for n in (525, 625, 0, 526)], [525, 625, 625, 625]
+    named = [calls.system_named(number) for number in (525, 625, 0, 526)]
+    yield "systems named", named, [(0, 0, 525), (0, 0, 625), (1, 0, 0), (1, 0, 0)]
     yield "figures of 525", calls.figures(525), (1716, 272, 276, 525)
     yield "figures of 625", calls.figures(625), (1728, 284, 288, 625)
     for system, line, told in (
@@ -345,7 +347,7 @@ def sums():
 
 
 def calls_in(crate):
-    """The public calls of a crate, by the names that a caller writes: a public trait's are its types'."""
+    """The public calls of a crate, by the names that a caller writes: a trait's or conversion's are its types'."""
     of_traits, types = {}, {}
     for file in sorted((REPO / "crates" / crate / "src").glob("*.rt")):
         owner, calls = "", None
@@ -358,6 +360,8 @@ def calls_in(crate):
                 calls = of_traits.setdefault(of_trait[1], []) if of_trait else None
             if met := re.match(r"impl (\w+) for (\w+) \{", text):
                 types.setdefault(met[1], []).append(met[2])
+            if made := re.match(r"impl (Try)?From<\w+> for (\w+) \{", text):
+                yield f"{crate}::{made[2]}::{'try_from' if made[1] else 'from'}"
             if calls is not None and (member := re.match(r"    (?:final )?fn (\w+)", text)):
                 calls.append(member[1])
             if found:

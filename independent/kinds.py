@@ -77,6 +77,7 @@ SHARED = {
     protocol.FLAGS: Kind(calls.flags, ("line",), ("525 v", "525 f", "625 v", "625 f")),
     protocol.OWN_FRESH: Kind(judge.fresh, ("system", "start"), (*ANSWER, *WALK)),
     protocol.SYSTEM_OF: Kind(judge.system_of, ("number",), ("system",)),
+    protocol.SYSTEM_NAMED: Kind(calls.system_named, ("number",), (*ANSWER, "system")),
     protocol.FIGURES: Kind(calls.figures, ("system",), ("words", "sav", "active", "lines")),
     protocol.SYSTEM_FLAGS: Kind(calls.system_flags, ("system", "line"), ("v", "f", "next line")),
     protocol.REPAIRS: Kind(judge.repairs, ("report",), ("repairs",)),
@@ -219,6 +220,7 @@ ASKED = {
     ),
     protocol.OWN_FRESH: ("system::System525::fresh_walk", "system::System625::fresh_walk"),
     protocol.SYSTEM_OF: ("system::system_of",),
+    protocol.SYSTEM_NAMED: ("system::System::try_from",),
     protocol.FIGURES: (
         "system::System::line_length",
         "system::System::sav_offset",
@@ -321,6 +323,7 @@ NOT_ASKED = {
     "capture_c": "the calls of capture once more, as exports",
     "speed": "reader, writer and serial once more, for the benchmark only",
     "system::Walk::of": "every walk that a kind brings is made by it",
+    "refusal::Refusal::from": "Refusal::of answers a reason by it",
 }
 
 

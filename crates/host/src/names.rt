@@ -4,7 +4,7 @@ use crate::{Host, NO_TEXT, TOO_LONG};
 use arrayvec::ArrayVec;
 use std::fs;
 use std::fs::{File, OpenOptions};
-use std::io::{Error, ErrorKind, Result, Write};
+use std::io::{Error, ErrorKind, Result};
 use std::os::unix::fs::OpenOptionsExt;
 use std::random::RandomSource;
 
@@ -22,28 +22,49 @@ const ROOM: usize = 4096 + WIDEST;
 // The first of the characters that tell no text: of U+10FF80 to U+10FFFF each stands for one byte from 128 on.
 const FIRST: char = '\u{100000}';
 
-// Puts what tells one byte of a name behind what was told, where the room is not used up.
-fn put<const N: usize>(told: &mut ArrayVec<u8, N>, bytes: &[u8]) -> Result<()> {
-    if told.remaining_capacity() < WIDEST {
+// Puts a part of a name behind what was told as it is. For its last byte too there has to be the room that any byte takes.
+fn put_plain<const N: usize>(told: &mut ArrayVec<u8, N>, bytes: &[u8]) -> Result<()> {
+    if told.remaining_capacity().saturating_sub(WIDEST - 1) < bytes.len() {
         return Err(Error::from_raw_os_error(TOO_LONG));
     }
-    told.write_all(bytes)
+    told.try_extend_from_slice(bytes)
+        .map_err(|_| Error::from_raw_os_error(TOO_LONG))
 }
 
-// The same by the character that stands for the byte.
+// Puts the character that stands for a byte.
 fn put_by_character<const N: usize>(told: &mut ArrayVec<u8, N>, byte: u8) -> Result<()> {
-    put(told, &[0xf4, 0x8f, 0xbc | byte >> 6, 0x80 | byte & 0x3f])
+    for part in [0xf4, 0x8f, 0xbc | byte >> 6, 0x80 | byte & 0x3f] {
+        told.try_push(part)
+            .map_err(|_| Error::from_raw_os_error(TOO_LONG))?;
+    }
+    Ok(())
+}
+
+// Whether text is told as it is: none of its characters may stand for a byte.
+fn is_plain(text: &str) -> bool {
+    text.chars().all(|character| character < FIRST)
 }
 
 // Puts a name's character: as it is, or each of its bytes by a character, where it may stand for a byte.
 fn put_character<const N: usize>(told: &mut ArrayVec<u8, N>, character: char) -> Result<()> {
     let mut room = [0u8; WIDEST];
-    for byte in character.encode_utf8(&mut room).as_bytes() {
-        if character < FIRST {
-            put(told, &[*byte])?;
-        } else {
-            put_by_character(told, *byte)?;
-        }
+    let bytes = character.encode_utf8(&mut room).as_bytes();
+    if character < FIRST {
+        return put_plain(told, bytes);
+    }
+    for byte in bytes {
+        put_by_character(told, *byte)?;
+    }
+    Ok(())
+}
+
+// Puts a name's text: at once where it is told as it is.
+fn put_text<const N: usize>(told: &mut ArrayVec<u8, N>, text: &str) -> Result<()> {
+    if is_plain(text) {
+        return put_plain(told, text.as_bytes());
+    }
+    for character in text.chars() {
+        put_character(told, character)?;
     }
     Ok(())
 }
@@ -51,9 +72,7 @@ fn put_character<const N: usize>(told: &mut ArrayVec<u8, N>, character: char) ->
 // The name told by characters, as text.
 fn told<'a, const N: usize>(name: &[u8], room: &'a mut ArrayVec<u8, N>) -> Result<&'a str> {
     for chunk in name.utf8_chunks() {
-        for character in chunk.valid().chars() {
-            put_character(room, character)?;
-        }
+        put_text(room, chunk.valid())?;
         for byte in chunk.invalid() {
             put_by_character(room, *byte)?;
         }
@@ -64,7 +83,7 @@ fn told<'a, const N: usize>(name: &[u8], room: &'a mut ArrayVec<u8, N>) -> Resul
 // A name as text: as it is, or told by characters in the room.
 fn text_of<'a, const N: usize>(name: &'a [u8], room: &'a mut ArrayVec<u8, N>) -> Result<&'a str> {
     match std::str::from_utf8(name) {
-        Ok(text) if text.chars().all(|character| character < FIRST) => Ok(text),
+        Ok(text) if is_plain(text) => Ok(text),
         _ => told(name, room),
     }
 }

@@ -44,7 +44,7 @@ fn on_numbers(kind: u32, payload: &[u8]) -> Numbers {
     let first = number(payload, 0);
     let second = number(payload, 4);
     match kind {
-        2 | 20..=24 | 28 => systems::answered(kind, first, second),
+        2 | 20..=24 | 28 | 52 => systems::answered(kind, first, second),
         1..=13 => correction::answered(kind, first, second, payload),
         30..=33 | 35 => dues::answered(kind, payload),
         36 => joining::answered(first, second, payload),

@@ -34,6 +34,14 @@ pub(crate) fn system_number(system: System) -> u32 {
     }
 }
 
+// System::try_from: its answer, and the system's number, 0 where it refuses.
+fn system_named(number: u32) -> Numbers {
+    match System::try_from(number) {
+        Ok(system) => Numbers::of_result(Ok(())).with(system_number(system)),
+        Err(refused) => Numbers::of_result(Err(refused)).with(0),
+    }
+}
+
 // System::line_length, sav_offset, active_offset and line_count.
 fn figures(system: System) -> Numbers {
     Numbers::none()
@@ -69,6 +77,7 @@ pub(crate) fn answered(kind: u32, first: u32, second: u32) -> Numbers {
         23 => figures(system::system_of(first)),
         24 => flags(system::system_of(first), second),
         28 => Numbers::of_result(system::named_refusal(first, second)),
+        52 => system_named(first),
         _ => Numbers::none(),
     }
 }

@@ -4,6 +4,7 @@ pub mod Theorems
 pub mod PerLine
 pub mod Samples
 pub mod OneResult
+pub mod Named
 pub mod Confirmed
 pub mod Tallied
 pub mod Promise

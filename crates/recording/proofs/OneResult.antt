@@ -1,16 +1,24 @@
 -- A contract that is one equation with a definition leaves one result: for every public call of that form; and for those that say which answer a
 -- result tells, since what is told gives the result back. Assumes nothing.
 use mathlib.Core.Path.{◌≡◌, refl, sym, ap, ap₂, ◌∙◌}
-use mathlib.Core.Bool.{Bool, cond}
+use mathlib.Core.Bool.{Bool, true, false, cond}
+use mathlib.Core.List.{List}
 use Prim.Native.Nat.{ℕ}
+use native.Mathlib.Omega.{arith}
 use lib.Dec.{eqb}
-use Rattle.std.specs.Prelude.{Option, Some, None, Result, Ok, Err}
+use lib.ListN.{length}
+use Rattle.std.specs.Prelude.{◌↔◌, Option, Some, None, Result, Ok, Err, get_or}
 use Rattle.refusal.specs.declared.Refusal.{Refusal}
 use Rattle.refusal.specs.declared.Reason.{Reason}
 use Rattle.refusal.specs.declared.Reason.TheVariants.{NoSystem, NoLine, WrongLength, BadCounts, Over, NoCode, BitNine, HopelessEven, NotDue, NoFill, Reserved, Outside, BadState, HopelessOdd, BadParity, BadChecksum, PacketPast, BadParts, BadRange, BadEntry}
 use Rattle.refusal.specs.declared.Refused.{Refused}
 use Rattle.refusal.specs.Reasons.{number_of, fault_number, answered}
 use Rattle.refusal.proofs.Results.{reason_counts}
+use Rattle.words.specs.Passes.{Sampled}
+use Rattle.system.specs.declared.System.{System}
+use Rattle.system.specs.declared.System.TheVariants.{Lines525, Lines625}
+use Rattle.system.specs.Figures.{system_number}
+use Rattle.system.specs.Refusals.{NoSystem as NamesNone, Names}
 use Rattle.packets.specs.Fault.{Space, space_told}
 use Rattle.serial.specs.declared.State.{State}
 use Rattle.serial.specs.declared.Returned.{Returned}
@@ -109,3 +117,33 @@ judged_one_result least (Ok x) (Err s) e f = absurd (reason_counts s.reason (sym
 judged_one_result least (Err r) (Ok y) e f = absurd (reason_counts r.reason (ap (λ (a : Refusal). a.number) f))
 judged_one_result least (Err r) (Err s) e f =
     ap (λ (x : Refused). Err x) (refused_one r s (ap (λ (a : Refusal). a.number) f) (ap (λ (a : Refusal). a.place) f))
+
+-- whether words are samples: a test that is yes exactly where something holds
+exactly_one : (P : Type 0) (r s : Bool) → (r ≡ true) ↔ P → (s ≡ true) ↔ P → r ≡ s
+exactly_one P true true e f = refl
+exactly_one P true false e f = sym (f.1 (e.0 refl))
+exactly_one P false true e f = e.1 (f.0 refl)
+exactly_one P false false e f = refl
+
+pub samples_one_result : (words : List ℕ) (r s : Bool) → (r ≡ true) ↔ Sampled (λ k. get_or words k 0) (length words)
+    → (s ≡ true) ↔ Sampled (λ k. get_or words k 0) (length words) → r ≡ s
+samples_one_result words = exactly_one (Sampled (λ k. get_or words k 0) (length words))
+
+-- the system that a number names: no two have one number, and none has a number that names none
+system_one : (x y : System) → system_number x ≡ system_number y → x ≡ y
+system_one Lines525 Lines525 e = refl
+system_one Lines525 Lines625 e = absurd (omega (arith, e))
+system_one Lines625 Lines525 e = absurd (omega (arith, e))
+system_one Lines625 Lines625 e = refl
+
+names_one : (x : System) (number : ℕ) → system_number x ≡ number → NamesNone number → ⊥
+names_one Lines525 number e none = none.0 (sym e)
+names_one Lines625 number e none = none.1 (sym e)
+
+pub system_one_result : (number : ℕ) (r s : Result System Refused) → Names number r → Names number s → r ≡ s
+system_one_result number (Ok x) (Ok y) e f = ap (λ (z : System). Ok z) (system_one x y (e ∙ sym f))
+system_one_result number (Ok x) (Err g) e f = absurd (names_one x number e f.0)
+system_one_result number (Err g) (Ok y) e f = absurd (names_one y number f e.0)
+system_one_result number (Err g) (Err h) e f =
+    let same = e.1 ∙ sym f.1 in
+    ap (λ (x : Refused). Err x) (refused_one g h (ap (λ (a : Refusal). a.number) same) (ap (λ (a : Refusal). a.place) same))

@@ -7,7 +7,6 @@ use Rattle.finished.specs.declared.Finishing.{Finishing}
 use Rattle.finished.specs.declared.meeting.Meeting.{Meeting}
 use Rattle.finished.specs.Finish.{Turn, room_after}
 use Rattle.console.specs.declared.Status.{Status}
-use Rattle.console.specs.Status.{code_of}
 use Rattle.finished.specs.Check.{lower, met_of, is_theirs}
 use Rattle.retention.specs.declared.sink.Index.{Index}
 use Rattle.retention.specs.declared.sink.Sink.{Sink}
@@ -15,7 +14,7 @@ use Rattle.retention.specs.declared.sink.Sink.TheVariants.{Finishing as Finishes
 use Rattle.retention.specs.declared.carrying.Carried.{Carried}
 use Rattle.retention.specs.declared.pieces.Parts.{Parts}
 use Rattle.retention.specs.Pieces.{filled_status, written_status}
-use Rattle.retention.specs.Turn.{Answers, entries_room, due_beside, behind_of, met_as, met_by, put_as, Turned, taken_by, moved_of, reached_by, made_by, reached_of, end_by, found_status, read_status, checked_as, checked_status}
+use Rattle.retention.specs.Turn.{Answers, entries_room, due_beside, behind_of, met_as, met_by, put_as, Turned, taken_by, moved_of, reached_by, made_by, reached_of, end_by, failure_of, found_status, read_status, checked_as, checked_status}
 
 -- the lower of two sizes
 least_lower : (a b : ℕ) → min a b ≡ lower b a
@@ -106,7 +105,7 @@ module _ (c : Carried) (parts : Result Parts Status) (ended : Result Meeting Sta
   by_end : (written : Bool) → r ≡ checked_as c ended parts written → Checked
   by_end written is = (said_as written, parts, is ∙ ap (λ (x : Result Meeting Status). checked_as c x parts written) (e ∙ same_end c.sink written))
 
-  pub check_unread : (status : Status) → ended ≡ Err status → r ≡ code_of status → Checked
+  pub check_unread : (status : Status) → ended ≡ Err status → r ≡ failure_of status → Checked
   check_unread status w is = by_end true (rw w is)
 
   pub check_theirs : (meeting : Meeting) → ended ≡ Ok meeting → (test : Bool) → test ≡ is_theirs c.finishing.run meeting → test ≡ true → (written : Bool)

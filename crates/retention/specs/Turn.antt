@@ -159,10 +159,14 @@ turn_of c (Bytes count) buffer room answers = reached_of c count buffer room ans
 
 -- ---- exit statuses
 
+-- of what the system failed in: its own, and never 0, so that no failure is told as a success
+abbrev pub failure_of : Status → ℕ
+failure_of status = cond (code_of status == 0) 2 (code_of status)
+
 -- of what came to one, or of what the system failed in
 abbrev pub exit_of : Result ℕ Status → ℕ
 exit_of (Ok exit) = exit
-exit_of (Err status) = code_of status
+exit_of (Err status) = failure_of status
 
 -- of what was finished, or was not
 abbrev pub status_of : Result Finishing ℕ → ℕ
@@ -172,12 +176,12 @@ status_of (Err exit) = exit
 -- 0, or what the system failed in
 abbrev pub ends_of : Result (Unit {0}) Status → ℕ
 ends_of (Ok ended) = 0
-ends_of (Err status) = code_of status
+ends_of (Err status) = failure_of status
 
 -- of `finish`, given how its index and trailer were written: a failed read and a refused line come before that
 abbrev pub finished_status : Result Carried Status → Result (Unit {0}) Status → ℕ
 finished_status (Ok c) ends = cond (not (c.finishing.run.number == 0)) 1 (ends_of ends)
-finished_status (Err status) ends = code_of status
+finished_status (Err status) ends = failure_of status
 
 -- of `ask`: 0 for all clean, 1 for not, 2 for no answer
 unfoldable pub asked_status : Asked → Bool → ℕ
@@ -195,14 +199,14 @@ no_status run meeting question written =
 -- the same where it may not have been read
 abbrev pub read_status : Run → Meeting → Result Parts Status → Bool → ℕ
 read_status run meeting (Ok parts) written = no_status run meeting parts.question written
-read_status run meeting (Err status) written = code_of status
+read_status run meeting (Err status) written = failure_of status
 
 -- the same behind the last line, where the rest of the index met so, or could not be read
 abbrev pub checked_as : Carried → Result Meeting Status → Result Parts Status → Bool → ℕ
 checked_as c (Ok meeting) parts written =
     cond (is_theirs c.finishing.run meeting) (found_status c.finishing.run meeting written)
     (read_status c.finishing.run meeting parts written)
-checked_as c (Err status) parts written = code_of status
+checked_as c (Err status) parts written = failure_of status
 
 abbrev pub checked_status : Carried → Result Parts Status → Answers → ℕ
 checked_status c parts answers = checked_as c (end_by c.sink answers) parts answers.written

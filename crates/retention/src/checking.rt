@@ -7,7 +7,7 @@ ghost use Rattle.retention.specs.Turn.{Answers, found_status, no_status, checked
 use crate::carrying::{Carried, carry};
 use crate::pieces::{Parts, read_end, read_index};
 use crate::sink::{Index, Sink};
-use crate::{File, failed};
+use crate::{File, exit};
 use confirmation::Run;
 use console::Status;
 use finished::{Finishing, Meeting};
@@ -140,8 +140,6 @@ fn check_read(host: &mut Host, file: File, name: &[u8]) -> Result<u32, Status> {
 
 // The full check of a finished file, and the exit status: 0 where all lines are accepted and the index is theirs, 1 where not.
 pub fn check(host: &mut Host, file: File, name: &[u8]) -> u32 {
-    match check_read(host, file, name) {
-        Ok(status) => status,
-        Err(status) => failed(host, b"check", name, status),
-    }
+    let came = check_read(host, file, name);
+    exit(host, b"check", name, came)
 }

@@ -3,7 +3,7 @@
 #![tactic(auto)]
 
 ghost use Rattle.std.specs.Prelude.{◌≡◌};
-ghost use Rattle.console.specs.Status.{code_of};
+ghost use Rattle.retention.specs.Turn.{exit_of, failure_of};
 
 mod asking;
 mod carrying;
@@ -28,10 +28,21 @@ pub struct File {
     pub start: u32,
 }
 
-// Says what the system failed in, and answers the exit status.
+// Says what the system failed in, and answers the exit status, which is never 0.
 fn failed(host: &mut Host, verb: &[u8], name: &[u8], status: Status) -> u32
-    ensures { result ≡ code_of status }
+    ensures { result ≡ failure_of status }
 {
     status.say_failure(host, verb, name);
-    status.code()
+    let code = status.code();
+    if code == 0 { 2 } else { code }
+}
+
+// The exit status that a verb came to, or that of what the system failed in.
+fn exit(host: &mut Host, verb: &[u8], name: &[u8], came: Result<u32, Status>) -> u32
+    ensures { result ≡ exit_of came }
+{
+    match came {
+        Ok(status) => status,
+        Err(status) => failed(host, verb, name, status),
+    }
 }

@@ -1,6 +1,6 @@
 // `unfinish`: a finished file's lines behind a header, as a recording.
 use crate::pieces::{Part, copy, read_parts, written_status};
-use crate::{File, failed};
+use crate::{File, exit};
 use console::Status;
 use host::{Host, OUTPUT};
 
@@ -28,8 +28,6 @@ fn unfinish_read(host: &mut Host, file: File, name: &[u8]) -> Result<u32, Status
 
 // Writes the recording that a finished file was made of to standard output, and answers the exit status.
 pub fn unfinish(host: &mut Host, file: File, name: &[u8]) -> u32 {
-    match unfinish_read(host, file, name) {
-        Ok(status) => status,
-        Err(status) => failed(host, b"unfinish", name, status),
-    }
+    let came = unfinish_read(host, file, name);
+    exit(host, b"unfinish", name, came)
 }

@@ -14,6 +14,8 @@ use Rattle.console.specs.declared.Read.{Read}
 use Rattle.console.specs.declared.Status.{Status}
 use Rattle.console.specs.declared.Status.TheVariants.{Done, Refused, Unread, Unwritten, Failed}
 use Rattle.console.specs.Status.{code_of, unread_of}
+use Rattle.station.specs.declared.coder.End.{End}
+use Rattle.station.specs.declared.coder.End.TheVariants.{Input, Over, Half, Unread as NotRead, Unwritten as NotWritten}
 use Rattle.station.specs.declared.entries.Entries.{Entries}
 use Rattle.station.specs.declared.extractor.Extracting.{Extracting}
 use Rattle.station.specs.declared.sidecar.Kept.{Kept}
@@ -36,6 +38,16 @@ goes_on number writes written = number == 0 && not (writes && not written)
 -- a filter that ended so
 abbrev pub ended_of : {T S : Type 0} → T → S → Ended T S
 ended_of at how = record { at = at; how = how }
+
+-- ---- coding
+
+-- how a stream of words ends: a failed read is not the end of its input
+abbrev pub coded_status : End → Status
+coded_status Input = Done
+coded_status Over = Refused
+coded_status Half = Refused
+coded_status NotRead = Unread
+coded_status NotWritten = Unwritten
 
 -- ---- extracting
 

@@ -1,6 +1,7 @@
 // `scramble` and `descramble`: words in, coded or decoded words out.
 ghost use Rattle.std.specs.Prelude.{◌≡◌, ◌/◌, ◌≤◌, true, length, Err};
 ghost use Rattle.station.specs.declared.coder.End.TheVariants.{Unread};
+ghost use Rattle.station.specs.Turns.{coded_status};
 
 use crate::turning::{Ended, Turn, Turning, take_turns};
 use console::Status;
@@ -48,7 +49,10 @@ enum End {
 }
 
 impl End {
-    fn status(self) -> Status {
+    // How it is told.
+    fn status(self) -> Status
+        ensures { result ≡ coded_status self }
+    {
         match self {
             End::Input => Status::Done,
             End::Over | End::Half => Status::Refused,

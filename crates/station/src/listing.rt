@@ -4,7 +4,6 @@ ghost use Rattle.std.specs.Prelude.{◌≤◌, length, IfSome};
 use arrayvec::ArrayVec;
 use captions::{ACTIVE, Entry};
 use host::{Host, OUTPUT};
-use std::io::Write;
 
 // Where in a packet's bytes the low bytes of its header words stand, and how many bytes it has without user words.
 const DATA_IDENTIFIER: usize = 6;
@@ -34,26 +33,45 @@ impl Space {
     }
 }
 
-// Writes a packet's line: the ordinal and the number of its line, its space, its two identifiers, and how many user words it has.
-fn list_packet(host: &mut Host, space: Space, packet: &[u8]) -> bool
+// Puts a number in decimal digits behind a text. By the kit's digits: a write! with all six took half as long again for the whole list.
+fn put_number<const N: usize>(text: &mut ArrayVec<u8, N>, number: u64) {
+    let mut digits = [0u8; 20];
+    let count = io::decimal(number, &mut digits);
+    console::put(text, &digits[..count]);
+}
+
+// Puts a blank and an identifier in two hexadecimal digits behind a text.
+fn put_identifier<const N: usize>(text: &mut ArrayVec<u8, N>, identifier: u8) {
+    let mut digits = [0u8; 16];
+    let count = io::hex(u64::from(identifier), 2, &mut digits);
+    console::put(text, b" ");
+    console::put(text, &digits[..count]);
+}
+
+// Writes a packet's line by way of a text: the ordinal and the number of its line, its space, its two identifiers, and how many user words it has.
+fn list_packet<const N: usize>(
+    host: &mut Host,
+    space: Space,
+    packet: &[u8],
+    text: &mut ArrayVec<u8, N>,
+) -> bool
     requires { 14 ≤ length packet.now }
 {
-    let name = if space.space == ACTIVE {
-        "active"
+    text.clear();
+    let name: &[u8] = if space.space == ACTIVE {
+        b" active"
     } else {
-        "between"
+        b" between"
     };
-    let mut text = ArrayVec::<u8, 96>::new();
-    let _ = write!(
-        text,
-        "{} {} {} {:02x} {:02x} {}\n",
-        space.ordinal,
-        space.line,
-        name,
-        packet[DATA_IDENTIFIER],
-        packet[SECOND_IDENTIFIER],
-        packet[COUNT]
-    );
+    put_number(text, space.ordinal);
+    console::put(text, b" ");
+    put_number(text, u64::from(space.line));
+    console::put(text, name);
+    put_identifier(text, packet[DATA_IDENTIFIER]);
+    put_identifier(text, packet[SECOND_IDENTIFIER]);
+    console::put(text, b" ");
+    put_number(text, u64::from(packet[COUNT]));
+    console::put(text, b"\n");
     host.write_all(OUTPUT, text.as_slice())
 }
 
@@ -70,9 +88,10 @@ fn packet_size(bytes: &[u8]) -> Option<usize>
 
 // Writes a line for each packet of a space, whose bytes these are. True where all were written.
 pub(crate) fn list_space(host: &mut Host, space: Space, bytes: &[u8]) -> bool {
+    let mut text = ArrayVec::<u8, 96>::new();
     let mut rest = bytes;
     while let Some(size) = packet_size(rest) {
-        if !list_packet(host, space, &rest[..size]) {
+        if !list_packet(host, space, &rest[..size], &mut text) {
             return false;
         }
         rest = &rest[size..];

@@ -1,7 +1,7 @@
 // `record`: v210 rows, and packets beside them, in; a recording out, or a row of recordings in a folder.
 ghost use Rattle.std.specs.Prelude.{◌≡◌, ◌≤◌, Bool, true, false, length, take, ◌≢◌, Ok, Err, IfOk, IfErr, IsErrAnd};
 ghost use Rattle.programme.specs.Tape.{taped_of, bare_taped, nothing_more, onto, end_of, most_turns};
-ghost use Rattle.console.specs.declared.Status.TheVariants.{Unread};
+ghost use Rattle.console.specs.declared.Status.TheVariants.{Done, Unread};
 ghost use Rattle.console.specs.Status.{code_of};
 ghost use Rattle.station.specs.declared.entries.Next.TheVariants.{Nothing};
 ghost use Rattle.station.specs.Entries.{next_line};
@@ -179,6 +179,13 @@ fn end_tape(host: &mut Host, first: Taping, line: &mut [u8], folder: &[u8]) -> T
     end_packets(host, at, line, folder)
 }
 
+// A tape that was taken whole ends well.
+fn taken_whole(at: Taping) -> Ended<Taping, Status>
+    ensures { result ≡ ended_of at Done }
+{
+    at.ended(Status::Done)
+}
+
 // What a turn makes of what was filled of a row. A failed read is not the end of the input.
 fn turned(
     host: &mut Host,
@@ -200,7 +207,7 @@ fn turned(
     }
     if filled.have == 0 {
         let end = end_tape(host, at, line, folder)?;
-        return Err(end.ended(Status::Done));
+        return Err(taken_whole(end));
     }
     put_row(host, at, &row[..filled.have], line, folder)
 }

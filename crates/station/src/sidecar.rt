@@ -69,8 +69,11 @@ impl Sidecar {
         lines: 0,
     };
 
-    // Packets are written to this file.
+    // Packets are written to this file; lines are counted where the number is no file's.
     pub fn of(file: i32) -> Sidecar {
+        if file < 0 {
+            return Sidecar::NONE;
+        }
         Sidecar {
             kept: Kept::Written(file),
             ..Sidecar::NONE
